@@ -1,0 +1,40 @@
+//! Compares the archive's elementary functions with the hardware's square root and the oracle's exact functions: `elementary_compare [COUNT [SEED]]`.
+use bench::Numbers;
+use nearest::{cbrt, cosine_and_sine_of_third};
+
+type Function = fn(f64) -> f64;
+
+fn differences(name: &str, count: u64, mut argument: impl FnMut() -> f64, ours: Function, theirs: Function) -> u64 {
+    let mut found = 0;
+    for _ in 0..count {
+        let x = argument();
+        let (a, b) = (ours(x), theirs(x));
+        if !bench::same(a, b) {
+            found += 1;
+            if found <= 5 {
+                println!("{name}({:016X}): {:016X}, expected {:016X}", x.to_bits(), a.to_bits(), b.to_bits());
+            }
+        }
+    }
+    println!("{name}: {count} arguments, {found} differences");
+    found
+}
+
+fn number(at: usize, otherwise: u64) -> u64 {
+    std::env::args().nth(at).map_or(otherwise, |word| word.parse().expect("a whole number"))
+}
+
+fn main() {
+    let count = number(1, 10_000_000);
+    let mut r = Numbers(number(2, 1));
+    let mut found = differences("sqrt", count, || r.any(), bench::sqrt, f64::sqrt);
+    found += differences("cbrt", count, || r.any(), bench::cbrt, cbrt);
+    found += differences("cosine", count, || r.cosine(), |t| bench::cosine_pair(t).0, |t| cosine_and_sine_of_third(t).0);
+    found += differences("sine", count, || r.cosine(), |t| bench::cosine_pair(t).1, |t| cosine_and_sine_of_third(t).1);
+    let few = count / 100;
+    found += differences("sqrt_by_digits", few, || r.any(), bench::sqrt_by_digits, f64::sqrt);
+    found += differences("cbrt_by_digits", few, || r.any(), bench::cbrt_by_digits, cbrt);
+    found += differences("cosine_by_digits", few, || r.cosine(), bench::cosine_by_digits, |t| cosine_and_sine_of_third(t).0);
+    found += differences("sine_by_digits", few, || r.cosine(), bench::sine_by_digits, |t| cosine_and_sine_of_third(t).1);
+    std::process::exit((found > 0) as i32);
+}

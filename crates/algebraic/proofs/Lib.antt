@@ -1,0 +1,3 @@
+-- Laws of algebraic numbers.
+pub mod Forms
+pub mod Codes

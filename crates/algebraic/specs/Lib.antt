@@ -1,0 +1,3 @@
+-- The definitions that the contracts of `algebraic` cite.
+pub mod Forms
+pub mod Reals

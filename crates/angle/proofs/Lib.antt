@@ -1,0 +1,4 @@
+-- Laws of the argument.
+pub mod Near
+pub mod Values
+pub mod Cases

@@ -1,0 +1,3 @@
+-- The definitions that the contracts of `angle` cite.
+pub mod Arguments
+pub mod Candidates

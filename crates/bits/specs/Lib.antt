@@ -1,0 +1,2 @@
+-- The fields of a double's bit pattern.
+pub mod Fields

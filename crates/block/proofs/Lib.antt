@@ -1,0 +1,11 @@
+-- The laws of `block`. Those for whole plans: MemberLaws, StretchLaws, LeastLaws, RefusalLaws.
+pub mod CondLaws
+pub mod ComparisonLaws
+pub mod FastestLaws
+pub mod SelectionLaws
+pub mod ArrayLaws
+pub mod MemberLaws
+pub mod StretchLaws
+pub mod LeastLaws
+pub mod RefusalLaws
+pub mod ShopChecks

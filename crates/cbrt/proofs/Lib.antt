@@ -1,0 +1,3 @@
+-- Laws of the cube root.
+pub mod Roots
+pub mod Signs

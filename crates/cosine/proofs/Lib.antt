@@ -1,0 +1,3 @@
+-- Laws of the cosine.
+pub mod Sides
+pub mod Rounding

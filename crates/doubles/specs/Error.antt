@@ -1,0 +1,16 @@
+-- What a rounding error is measured by: half a unit in the last place, as a share of the exact result. Definitions only.
+use Prim.Native.Nat.{ℕ, _+_, _*_, _≤_}
+use Rattle.doubles.specs.Signed.{Signed, _⊙_, Near, size}
+
+-- w times the distance of x and n is at most e
+pub record ErrorAtMost (w x n e : ℕ) : Type 0 where
+  pub low : w * x ≤ w * n + e
+  pub high : w * n ≤ w * x + e
+
+-- r is x with a relative error of at most 1 / w
+abbrev pub RelativeError : ℕ → Signed → Signed → Type 0
+RelativeError w r x = Near (w ⊙ r) (w ⊙ x) (size x)
+
+-- u * r is x with a relative error of at most 1 / w, and h / w of u besides: where r underflows, its error is half a unit
+abbrev pub RelativeErrorOrUnderflow : ℕ → ℕ → ℕ → Signed → Signed → Type 0
+RelativeErrorOrUnderflow w h u r x = Near (w ⊙ (u ⊙ r)) (w ⊙ x) (size x + h * u)

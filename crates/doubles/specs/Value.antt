@@ -1,0 +1,38 @@
+-- The exact value of a finite float of either format: a whole number of its format's smallest positive value, 2 ^ -low, which is 2 ^ -1074 for an f64.
+-- These whole numbers are called units below. A NaN and an infinity have the value 0, and no law says more of it. Definitions only.
+use Prim.Native.Nat.{ℕ, _*_, _/_, _^_}
+use mathlib.Core.Bool.{Bool, true, false}
+use lib.Dec.{T}
+use lib.Ieee.{Float, nan, inf, fin, Format, binary64, low, up, down, fits}
+use lib.Ieee.Scale.{finite}
+use Rattle.doubles.specs.Signed.{Signed, zeroˢ}
+
+-- n, or -n where the sign is set
+abbrev pub signed : Bool → ℕ → Signed
+signed false n = record { plus = n; less = 0 }
+signed true n = record { plus = 0; less = n }
+
+-- the size in units. A value that the format holds is a whole number of them, so the division is exact
+unfoldable pub magnitude : Format → Float → ℕ
+magnitude f nan = 0
+magnitude f (inf s) = 0
+magnitude f (fin s m e) = m * up e * 2 ^ low f / down e
+
+unfoldable pub value : Format → Float → Signed
+unfolding magnitude
+value f nan = zeroˢ
+value f (inf s) = zeroˢ
+value f (fin s m e) = signed s (magnitude f (fin s m e))
+
+-- ---- at binary64
+
+-- the value of a double, in units of 2 ^ -1074
+abbrev pub val : Float → Signed
+val x = value binary64 x
+
+-- it is a double
+abbrev pub Fits : Float → Type 0
+Fits x = T (fits binary64 x)
+
+abbrev pub Finite : Float → Type 0
+Finite x = T (finite x)

@@ -1,0 +1,2 @@
+-- The laws of `encoding`.
+pub mod Laws

@@ -1,0 +1,15 @@
+-- `encoding::bits_of` meets its contract. Assumes nothing.
+use borrow.Author.Needs.{needs}
+use Rattle.bits.proofs.Patterns.{not-nan}
+use Rattle.encoding.proofs.Laws.{nan-bits}
+use Rattle.encoding.proofs.bits_of.Statement.{statement}
+use Rattle.encoding.proofs.bits_of.Tie as tie
+
+returns : tie.Need-returns
+returns c = nan-bits _ (c .if1 .taken)
+
+float-to-bits-result : tie.Need-float-to-bits-result
+float-to-bits-result c = not-nan _ (c .if1 .left)
+
+pub bits-of-spec : {M : Type 1} → statement M
+bits-of-spec = tie.close (tie.spec returns float-to-bits-result (λ c. search needs))

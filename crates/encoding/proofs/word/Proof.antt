@@ -1,0 +1,30 @@
+-- `encoding::word` meets its contract. Assumes nothing.
+use native.Mathlib.Omega.{arith}
+use borrow.Author.Needs.{needs}
+use Rattle.encoding.proofs.word.Statement.{statement}
+use Rattle.encoding.proofs.word.Tie as tie
+
+returns : tie.Need-returns
+returns c = rw (c .with-byte8 .ensures .0, c .before .with-byte7 .ensures .0, c .before .before .with-byte6 .ensures .0, c .before .before .before .with-byte5 .ensures .0, c .before .before .before .before .with-byte4 .ensures .0, c .before .before .before .before .before .with-byte3 .ensures .0, c .before .before .before .before .before .before .with-byte2 .ensures .0, c .before .before .before .before .before .before .before .with-byte .ensures .0) (omega arith)
+
+pub word-spec : {M : Type 1} → statement M
+word-spec =
+    tie.close
+    (tie.spec
+    (λ c. search needs)
+    (λ c κs. search needs)
+    (λ c. search needs)
+    (λ c κs. search needs)
+    (λ c. search needs)
+    (λ c κs. search needs)
+    (λ c. search needs)
+    (λ c κs. search needs)
+    (λ c. search needs)
+    (λ c κs. search needs)
+    (λ c. search needs)
+    (λ c κs. search needs)
+    (λ c. search needs)
+    (λ c κs. search needs)
+    (λ c. search needs)
+    (λ c κs. search needs)
+    returns)

@@ -1,0 +1,2 @@
+-- The definitions that the contracts of `encoding` cite.
+pub mod Encoding

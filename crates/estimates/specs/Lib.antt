@@ -1,0 +1,2 @@
+-- The definitions that the contracts of `estimates` cite.
+pub mod Estimates

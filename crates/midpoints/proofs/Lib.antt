@@ -1,0 +1,3 @@
+-- Laws of the certificates.
+pub mod CubicLaws
+pub mod SexticLaws

@@ -1,0 +1,3 @@
+-- The definitions that the contracts of `midpoints` cite.
+pub mod Cubic
+pub mod Sextic

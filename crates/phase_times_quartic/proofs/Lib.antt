@@ -1,0 +1,2 @@
+-- Examples of the definitions of `phase_times_quartic`.
+pub mod Examples

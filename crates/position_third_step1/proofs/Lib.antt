@@ -1,0 +1,4 @@
+-- The laws of `position_third_step1`.
+pub mod TryLaws
+pub mod FamilyLaws
+pub mod RootLaws

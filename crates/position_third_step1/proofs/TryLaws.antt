@@ -1,0 +1,57 @@
+-- A try and what follows it: s is the state before it, to which a yes adds by `add`. Assumes nothing.
+use mathlib.Core.Path.{_≡_, refl, sym, ap, _∙_}
+use mathlib.Core.Bool.{Bool, true, false}
+use mathlib.Core.List.{List, [], _∷_}
+use Rattle.trees.specs.Tree.{run}
+use Rattle.trees.specs.InTurn.{inTurn}
+use Rattle.trees.proofs.InTurnLaws.{run-no, run-yes, run-stop}
+use Rattle.candidates.specs.Try.{Try, passes}
+use Rattle.position_third_step1.specs.Plan.{onlyIf}
+
+-- d is the state after a try x that is made only if g, in a family that goes on. y is the try as the code has it, ok the answer to it
+pub data After {S : Type 0} (add : S → Try → S) (stop : Bool) (s : S) (g : Bool) (x : Try) (d : S) : Type 0 where
+  left-out : g ≡ false → d ≡ s → After add stop s g x d
+  no : g ≡ true → {y : Try} → y ≡ x → {ok : Bool} → ok ≡ passes y → ok ≡ false → d ≡ s → After add stop s g x d
+  yes : g ≡ true → {y : Try} → y ≡ x → {ok : Bool} → ok ≡ passes y → ok ≡ true → stop ≡ false → d ≡ add s y → After add stop s g x d
+
+module _ {S : Type 0} (add : S → Try → S) where
+  -- the state at the end of the tries
+  abbrev end : Bool → S → List Try → S
+  end stop s xs = run passes (inTurn add stop s xs)
+
+  -- no try is left
+  pub ended : (stop : Bool) (s : S) → s ≡ end stop s []
+  unfolding run inTurn
+  ended stop s = refl
+
+  -- y is the try x as the code has it, and ok the check's answer to it
+  module _ (s : S) (x : Try) (xs : List Try) {y : Try} (ex : y ≡ x) {ok : Bool} (answer : ok ≡ passes y) where
+    answered-as : {yes : Bool} → ok ≡ yes → passes x ≡ yes
+    answered-as h = ap passes (sym ex) ∙ sym answer ∙ h
+
+    pub refused : (stop : Bool) {r : S} → ok ≡ false → r ≡ end stop s xs → r ≡ end stop s (x ∷ xs)
+    refused stop h e = e ∙ sym (run-no passes add stop s x xs (answered-as h))
+
+    pub stopped : {r : S} → ok ≡ true → r ≡ add s y → r ≡ end true s (x ∷ xs)
+    stopped h e = e ∙ ap (λ (z : Try). add s z) ex ∙ sym (run-stop passes add s x xs (answered-as h))
+
+    accepted : {d r : S} → ok ≡ true → d ≡ add s y → r ≡ end false d xs → r ≡ end false s (x ∷ xs)
+    accepted h e f = f ∙ ap (λ (z : S). end false z xs) (e ∙ ap (λ (z : Try). add s z) ex) ∙ sym (run-yes passes add s x xs (answered-as h))
+
+  -- a try that is made only if g: the family goes on
+  pub goes-on : (xs : List Try) {stop : Bool} {s : S} {g : Bool} {x : Try} {r d : S} → After add stop s g x d → r ≡ end stop d xs → r ≡ end stop s (onlyIf g x xs)
+  unfolding onlyIf
+  goes-on xs (left-out h e) f = rw (h, ← e) f
+  goes-on xs {stop} (no h ex a n e) f = rw h (refused _ _ xs ex a stop n (rw (← e) f))
+  goes-on xs (yes h ex a y s e) f = rw (h, s) (accepted _ _ xs ex a y e (rw s at f))
+
+  -- or stops at it
+  pub stops : (xs : List Try) (stop : Bool) (s : S) {g : Bool} {x y : Try} {ok : Bool} {r : S} → g ≡ true → y ≡ x → ok ≡ passes y → ok ≡ true → stop ≡ true → r ≡ add s y → r ≡ end stop s (onlyIf g x xs)
+  unfolding onlyIf
+  stops xs stop s h ex a y found e = rw (h, found) (stopped s _ xs ex a y e)
+
+  -- after the last try of a family it makes no difference
+  pub stops-last : (stop : Bool) (s : S) {g : Bool} {x y : Try} {ok : Bool} {r : S} → g ≡ true → y ≡ x → ok ≡ passes y → ok ≡ true → r ≡ add s y → r ≡ end stop s (onlyIf g x [])
+  unfolding onlyIf
+  stops-last true s h ex a y e = rw h (stopped s _ [] ex a y e)
+  stops-last false s h ex a y e = rw h (accepted s _ [] ex a y e (ended false _))

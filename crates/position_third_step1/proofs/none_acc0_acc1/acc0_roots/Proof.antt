@@ -1,0 +1,23 @@
+-- `position_third_step1::none_acc0_acc1::acc0_roots` meets its contract. Assumes nothing.
+use Rattle.position_third_step1.specs.TimeAllNoneAcc0Acc1.{acc0Roots}
+use borrow.Author.Needs.{needs}
+use Rattle.position_third_step1.proofs.none_acc0_acc1.acc0_roots.Statement.{statement}
+use Rattle.position_third_step1.proofs.none_acc0_acc1.acc0_roots.Tie as tie
+
+returns : tie.Need-returns
+unfolding acc0Roots
+returns c = (rw (← c .before .before .before .before .before .before .before .h0-acc0 .ensures, ← c .before .before .before .before .before .before .h2-acc0 .ensures, ← c .before .before .before .before .before .polynom-acc0 .ensures, ← c .before .before .before .before .range-acc0 .ensures, ← c .before .before .before .shifted .ensures, ← c .before .before .has-solution .ensures, ← c .before .roots-if .ensures .0, ← c .h3-acc0 .ensures), c .before .roots-if .ensures .1)
+
+pub acc0-roots-spec : {M : Type 1} → statement M
+acc0-roots-spec =
+    tie.close
+    (tie.spec
+    (λ c κs. search needs)
+    (λ c κs. search needs)
+    (λ c κs. search needs)
+    (λ c κs. search needs)
+    (λ c κs. search needs)
+    (λ c κs. search needs)
+    (λ c κs. search needs)
+    (λ c κs. search needs)
+    returns)

@@ -1,0 +1,5 @@
+-- The definitions of `profile`.
+pub mod Tolerances
+pub mod Names
+pub mod Limits
+pub mod Boundary

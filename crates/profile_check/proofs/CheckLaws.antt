@@ -1,0 +1,76 @@
+-- What the tests of a check find makes its answer. Assumes nothing.
+use mathlib.Core.Path.{_≡_}
+use mathlib.Core.Bool.{Bool, true, false, not, _&&_}
+use mathlib.Core.List.{List}
+use borrow.Author.Tests.{not-true, not-false}
+use lib.Ieee.{Float}
+use Rattle.profile.specs.Tolerances.{tMax}
+use Rattle.profile.specs.Limits.{directionOf, boundsOf}
+use Rattle.profile.specs.Boundary.{startOf}
+use Rattle.profile_rows.specs.Rows.{sums, jerks, rowsOf}
+use Rattle.profile_check.specs.Check.{timesPass, phasesPass, sumPasses, zerosPass, endPasses, rowsPass, accepted, filled}
+use Rattle.profile.specs.declared.Profile.{Profile}
+use Rattle.profile.specs.declared.Direction.{Direction}
+use Rattle.profile.specs.declared.Start.{Start}
+use Rattle.profile.specs.declared.Target.{Target}
+use Rattle.profile.specs.declared.Limits.{Limits}
+use Rattle.profile_rows.specs.declared.Rows.{Rows}
+use Rattle.profile.specs.declared.Bounds.{Bounds}
+use Rattle.profile.specs.declared.ReachedLimits.{ReachedLimits}
+use Rattle.profile.specs.declared.ControlSigns.{ControlSigns}
+
+pub and5 : {a b c d e a′ b′ c′ d′ e′ : Bool} → a ≡ a′ → b ≡ b′ → c ≡ c′ → d ≡ d′ → e ≡ e′ → (a && b && c && d && e) ≡ (a′ && b′ && c′ && d′ && e′)
+and5 p q r s t = rw (p, q, r, s, t)
+
+-- x1, x2 and x3 are the tests of the times, x4, x5 and x6 those of the rows
+module _ (start : Start) (target : Target) (t : List Float) (signs : ControlSigns) (reached : ReachedLimits) (set-limits : Bool) (jf : Float) (m : Limits)
+    {x1 : Bool} (e1 : x1 ≡ timesPass t) where
+  pub refused-times : not x1 ≡ true → false ≡ accepted start target t signs reached set-limits jf m
+  unfolding accepted
+  refused-times h = rw (← e1, not-true x1 h)
+
+  module _ (h1 : not x1 ≡ false) {x2 x3 : Bool} (e2 : x2 ≡ phasesPass reached t) (e3 : x3 ≡ sumPasses tMax t) where
+    pub refused-phases : not (x2 && x3) ≡ true → false ≡ accepted start target t signs reached set-limits jf m
+    unfolding accepted
+    refused-phases h = rw (← e1, not-false x1 h1, ← e2, ← e3, not-true (x2 && x3) h)
+
+    pub by-rows : not (x2 && x3) ≡ false
+        → {j : List Float} {r : Rows} {b : Bounds} {x4 x5 x6 : Bool}
+        → j ≡ jerks signs t jf
+        → r ≡ rowsOf start t j reached set-limits m
+        → b ≡ boundsOf m
+        → x4 ≡ zerosPass r j b
+        → x5 ≡ endPasses r target
+        → x6 ≡ rowsPass r b
+        → (x4 && x5 && x6) ≡ accepted start target t signs reached set-limits jf m
+    unfolding accepted
+    by-rows h ej er eb e4 e5 e6 = rw (← e1, not-false x1 h1, ← e2, ← e3, not-false (x2 && x3) h, ← ej, ← er, ← eb, ← e4, ← e5, ← e6)
+
+-- a profile of these parts is the filled one
+pub filled-made :
+    (q : Profile) (t : List Float) (signs : ControlSigns) (reached : ReachedLimits) (set-limits : Bool) (jf : Float) (m : Limits) {t-sum j : List Float} {start : Start} {r : Rows} {d : Direction}
+    → t-sum ≡ sums t
+    → j ≡ jerks signs t jf
+    → start ≡ startOf q
+    → r ≡ rowsOf start t j reached set-limits m
+    → d ≡ directionOf m
+    → _≡_ {A = Profile}
+    (record {
+      t = t;
+      «t_sum» = t-sum;
+      j = j;
+      a = r .a;
+      v = r .v;
+      p = r .p;
+      brake = q .brake;
+      accel = q .accel;
+      pf = q .pf;
+      vf = q .vf;
+      af = q .af;
+      limits = reached;
+      direction = d;
+      «control_signs» = signs;
+    })
+    (filled q t signs reached set-limits jf m)
+unfolding filled
+filled-made q t signs reached set-limits jf m es ej e0 er ed = rw (← es, ← ej, ← e0, ← er, ← ed)

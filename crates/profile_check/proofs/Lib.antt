@@ -1,0 +1,4 @@
+-- The laws of `profile_check`.
+pub mod CheckLaws
+pub mod Accepted
+pub mod Resting

@@ -1,0 +1,2 @@
+-- The definitions of `profile_check`.
+pub mod Check

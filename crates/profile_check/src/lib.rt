@@ -1,0 +1,138 @@
+// The check. A try that it refuses writes no profile: `accepts` says whether, and `made` fills the profile in.
+
+ghost use mathlib.Core.Path.{_≡_};
+ghost use mathlib.Core.Bool.{false};
+ghost use Rattle.profile_check.specs.Check.{accepted, filled, checked};
+
+mod tests; // tests.rt: the tests of the check
+
+use profile::ControlSigns;
+use profile::Limits;
+use profile::Profile;
+use profile::ReachedLimits;
+use profile::Start;
+use profile::Target;
+use profile_rows::jerks_of;
+use profile_rows::rows_of;
+use profile_rows::sums_of;
+use tests::end_passes;
+use tests::phases_pass;
+use tests::rows_pass;
+use tests::sum_passes;
+use tests::times_pass;
+use tests::zeros_pass;
+
+// Whether a profile was accepted, and the profile: filled in, or as it was given.
+pub struct Checked {
+    pub ok: bool,
+    pub profile: Profile,
+}
+
+// Whether the times t, from the start, pass every test of the check.
+pub fn accepts(
+    start: Start,
+    target: Target,
+    t: [f64; 7],
+    control_signs: ControlSigns,
+    reached: ReachedLimits,
+    set_limits: bool,
+    jf: f64,
+    limits: Limits,
+) -> bool
+    ensures { λ r. ⌜ r ≡ accepted start target t «control_signs» reached «set_limits» jf limits ⌝ }
+{
+    if !times_pass(t) {
+        return false;
+    }
+    if !(phases_pass(reached, t) & sum_passes(Profile::T_MAX, t)) {
+        return false;
+    }
+    let j = jerks_of(control_signs, t, jf);
+    let rows = rows_of(start, t, j, reached, set_limits, limits);
+    let bounds = limits.bounds();
+    zeros_pass(rows, j, bounds) & end_passes(rows, target) & rows_pass(rows, bounds)
+}
+
+// The boundary of q with the times t and what the check fills in.
+pub fn made(
+    q: Profile,
+    t: [f64; 7],
+    control_signs: ControlSigns,
+    reached: ReachedLimits,
+    set_limits: bool,
+    jf: f64,
+    limits: Limits,
+) -> Profile
+    ensures { λ r. ⌜ r ≡ filled q t «control_signs» reached «set_limits» jf limits ⌝ }
+{
+    let t_sum = sums_of(t);
+    let j = jerks_of(control_signs, t, jf);
+    let rows = rows_of(q.start(), t, j, reached, set_limits, limits);
+    let a = rows.a;
+    let v = rows.v;
+    let p = rows.p;
+    let direction = limits.direction();
+    Profile {
+        t,
+        t_sum,
+        j,
+        a,
+        v,
+        p,
+        brake: q.brake,
+        accel: q.accel,
+        pf: q.pf,
+        vf: q.vf,
+        af: q.af,
+        limits: reached,
+        direction,
+        control_signs,
+    }
+}
+
+// The profile with what the check fills in where it is accepted, and else the profile as it was given.
+pub fn check(
+    q: Profile,
+    control_signs: ControlSigns,
+    reached: ReachedLimits,
+    set_limits: bool,
+    jf: f64,
+    limits: Limits,
+) -> Checked
+    ensures { λ r. ⌜ r ≡ checked q «control_signs» reached «set_limits» jf limits ⌝ }
+{
+    let t = q.t;
+    let start = q.start();
+    let target = q.target();
+    if accepts(
+        start,
+        target,
+        t,
+        control_signs,
+        reached,
+        set_limits,
+        jf,
+        limits,
+    ) {
+        let profile = made(q, t, control_signs, reached, set_limits, jf, limits);
+        Checked { ok: true, profile }
+    } else {
+        Checked {
+            ok: false,
+            profile: q,
+        }
+    }
+}
+
+// The check that stores no limit as an acceleration.
+pub fn check_with_timing(
+    q: Profile,
+    control_signs: ControlSigns,
+    reached: ReachedLimits,
+    jf: f64,
+    limits: Limits,
+) -> Checked
+    ensures { λ r. ⌜ r ≡ checked q «control_signs» reached false jf limits ⌝ }
+{
+    check(q, control_signs, reached, false, jf, limits)
+}

@@ -1,0 +1,34 @@
+-- `profile_rows::jerks_of` meets its contract. Assumes nothing.
+use Rattle.profile_rows.specs.Rows.{jerks}
+use borrow.Author.Needs.{needs}
+use Rattle.profile_rows.proofs.jerks_of.Statement.{statement}
+use Rattle.profile_rows.proofs.jerks_of.Tie as tie
+
+returns : tie.Need-returns
+unfolding jerks
+returns c = rw (c .before .before .enum-told .given .1, c .before .before .before .before .before .jerk-if .ensures, c .before .before .before .before .jerk-if2 .ensures, c .before .jerk-if3 .ensures, c .jerk-if4 .ensures)
+
+returns-2 : tie.Need-returns-2
+unfolding jerks
+returns-2 c = rw (c .before .before .enum-told2 .given .1, c .before .before .before .before .before .jerk-if .ensures, c .before .before .before .before .jerk-if2 .ensures, c .before .jerk-if5 .ensures, c .jerk-if6 .ensures)
+
+pub jerks-of-spec : {M : Type 1} → statement M
+jerks-of-spec =
+    tie.close
+    (tie.spec
+    (λ c. search needs)
+    (λ c κs. search needs)
+    (λ c. search needs)
+    (λ c κs. search needs)
+    (λ c. search needs)
+    (λ c. search needs)
+    (λ c κs. search needs)
+    (λ c. search needs)
+    (λ c κs. search needs)
+    (λ c. search needs)
+    (λ c. search needs)
+    (λ c κs. search needs)
+    (λ c. search needs)
+    (λ c κs. search needs)
+    returns
+    returns-2)

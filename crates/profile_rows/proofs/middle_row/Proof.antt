@@ -1,0 +1,20 @@
+-- `profile_rows::middle_row` meets its contract. Assumes nothing.
+use Rattle.profile_rows.specs.Rows.{middleRow}
+use borrow.Author.Needs.{needs}
+use Rattle.profile_rows.proofs.middle_row.Statement.{statement}
+use Rattle.profile_rows.proofs.middle_row.Tie as tie
+
+returns : tie.Need-returns
+unfolding middleRow
+returns c = rw (c .stored-if2 .ensures, c .before .is-acc1 .ensures, c .before .before .stored-if .ensures, c .before .before .before .before .ends-in-vel .ensures, c .before .before .before .is-acc0-acc1 .ensures)
+
+pub middle-row-spec : {M : Type 1} → statement M
+middle-row-spec =
+    tie.close
+    (tie.spec
+    (λ c κs. search needs)
+    (λ c κs. search needs)
+    (λ c κs. search needs)
+    (λ c κs. search needs)
+    (λ c κs. search needs)
+    returns)

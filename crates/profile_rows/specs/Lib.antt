@@ -1,0 +1,2 @@
+-- The definitions of `profile_rows`.
+pub mod Rows

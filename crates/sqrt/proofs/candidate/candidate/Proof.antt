@@ -1,0 +1,27 @@
+-- `sqrt::candidate::candidate` meets its contract. Assumes nothing.
+use borrow.Author.Needs.{needs}
+use Rattle.sqrt.specs.Candidate.{candidateOf}
+use Rattle.sqrt.proofs.candidate.candidate.Statement.{statement}
+use Rattle.sqrt.proofs.candidate.candidate.Tie as tie
+
+first-guess-requires : tie.Need-first-guess-requires
+first-guess-requires c κs = search needs
+
+newton-requires : tie.Need-newton-requires
+newton-requires c κs = search needs
+
+newton-requires-2 : tie.Need-newton-requires-2
+newton-requires-2 c κs = search needs
+
+leading-digits-requires : tie.Need-leading-digits-requires
+leading-digits-requires c κs = search needs
+
+newton-requires-3 : tie.Need-newton-requires-3
+newton-requires-3 c κs = search needs
+
+returns : tie.Need-returns
+unfolding candidateOf
+returns c = cc
+
+pub candidate-spec : {M : Type 1} → statement M
+candidate-spec = tie.close (tie.spec first-guess-requires newton-requires newton-requires-2 leading-digits-requires newton-requires-3 returns)

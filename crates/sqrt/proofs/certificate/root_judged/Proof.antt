@@ -1,0 +1,90 @@
+-- `sqrt::certificate::root_judged` meets its contract. Assumes nothing.
+use mathlib.Core.Path.{_≡_, sym, ap, ap₂, _∙_, subst}
+use Prim.Native.Nat.{ℕ, suc, _+_, _-_, _*_, _/_, _%_, _^_, _≤_, _<_}
+use native.Mathlib.Omega.{arith}
+use lib.Bits.{and-mask}
+use lib.Ieee.{binary64, ofBits}
+use borrow.Author.Needs.{needs}
+use Rattle.bits.specs.Fields.{Normalized}
+use Rattle.bits.proofs.Normalize.{normal}
+use Rattle.sqrt.specs.Roots.{NearestRoot}
+use Rattle.sqrt.specs.Verdicts.{IsRoot, Certified}
+use Rattle.sqrt.specs.declared.certificate.Verdict.{Verdict}
+use Rattle.sqrt.specs.declared.certificate.Verdict.the-variants.{Nearest, TooLow, TooHigh, Unknown}
+use Rattle.sqrt.proofs.RootPattern.{with-parity, root-most, root-is}
+use Rattle.sqrt.proofs.Verdicts.{Says, verdict-says}
+use Rattle.sqrt.proofs.certificate.root_judged.Statement.{statement}
+use Rattle.sqrt.proofs.certificate.root_judged.Tie as tie
+
+-- the digits below 2 ^ 53 of b with the bias of the exponent added: the fraction, and the parity of the normalized exponent
+fraction-is : (b : ℕ) → (b + 0x3ff0_0000_0000_0000) % 2 ^ 53 % 2 ^ 52 ≡ b % 2 ^ 52
+fraction-is b = omega arith
+
+parity-is : (b : ℕ) → (b + 0x3ff0_0000_0000_0000) % 2 ^ 53 / 2 ^ 52 ≡ (b / 2 ^ 52 + 1021) % 2
+parity-is b = omega arith
+
+radicand-is : (b : ℕ) → ((b + 0x3ff0_0000_0000_0000) % 2 ^ 53 % 2 ^ 52 + 2 ^ 52) * 2 ^ ((b + 0x3ff0_0000_0000_0000) % 2 ^ 53 / 2 ^ 52) ≡ (b % 2 ^ 52 + 2 ^ 52) * 2 ^ ((b / 2 ^ 52 + 1021) % 2)
+radicand-is b = ap₂ (λ (x y : ℕ). (x + 2 ^ 52) * 2 ^ y) (fraction-is b) (parity-is b)
+
+-- c is half the exponent and r
+pattern-is : (b c r : ℕ) → 2 ^ 52 ≤ b → b < 0x7ff0_0000_0000_0000 → r < 2 ^ 53 → (r + ((b + 0x3ff0_0000_0000_0000) / 2 ^ 53 - 1) * 2 ^ 52 % 2 ^ 64) % 2 ^ 64 ≡ c → (b / 2 ^ 52 + 1021) / 2 * 2 ^ 52 + r ≡ c
+pattern-is b c r h g l e = omega arith
+
+add-biased : tie.Need-add-biased
+add-biased c = search needs
+
+sub-wrapping-sub-u64 : tie.Need-sub-wrapping-sub-u64
+sub-wrapping-sub-u64 c = search needs
+
+wrapping-sub-u64-requires : tie.Need-wrapping-sub-u64-requires
+wrapping-sub-u64-requires c κs = search needs
+
+returns : tie.Need-returns
+returns c = search needs
+
+radicand-requires : tie.Need-radicand-requires
+radicand-requires c κs = omega (arith, and-mask (c .before .before .args .b + 0x3ff0_0000_0000_0000) 53)
+
+module _ (c : tie.After-radicand) where
+  radicand : c .radicand .result ≡ (c .before .before .before .args .b % 2 ^ 52 + 2 ^ 52) * 2 ^ ((c .before .before .before .args .b / 2 ^ 52 + 1021) % 2)
+  radicand =
+      c .radicand .ensures
+      ∙ ap (λ (x : ℕ). (x % 2 ^ 52 + 2 ^ 52) * 2 ^ (x / 2 ^ 52)) (and-mask (c .before .before .before .args .b + 0x3ff0_0000_0000_0000) 53)
+      ∙ radicand-is (c .before .before .before .args .b)
+
+judged-requires : tie.Need-judged-requires
+judged-requires c κs = (
+  rw (radicand c) (with-parity (c .before .before .before .args .b % 2 ^ 52 + 2 ^ 52) ((c .before .before .before .args .b / 2 ^ 52 + 1021) % 2) (omega arith) (omega arith) (omega arith) .1),
+  c .before .if1 .left,
+)
+
+-- what the verdict says of whole numbers, said of the patterns
+certified : (b c r : ℕ) → 2 ^ 52 ≤ b → b < 0x7ff0_0000_0000_0000 → (b / 2 ^ 52 + 1021) / 2 * 2 ^ 52 + r ≡ c → (v : Verdict) → Says ((b % 2 ^ 52 + 2 ^ 52) * 2 ^ ((b / 2 ^ 52 + 1021) % 2) * 2 ^ 52) r v → Certified b c v
+certified b c r h g e v s = go v s
+  where
+    parts : Normalized b (b % 2 ^ 52 + 2 ^ 52) (b / 2 ^ 52 + 1021)
+    parts = normal b (b / 2 ^ 52 - 1) (let z : b / 2 ^ 52 ≡ suc (b / 2 ^ 52 - 1) = omega arith in z) g
+
+    at : (n p : ℕ) → (b / 2 ^ 52 + 1021) / 2 * 2 ^ 52 + n ≡ p → NearestRoot ((b % 2 ^ 52 + 2 ^ 52) * 2 ^ ((b / 2 ^ 52 + 1021) % 2) * 2 ^ 52) n → IsRoot b p
+    at n p q k =
+        let most : n ≤ 2 ^ 53 = root-most b (b % 2 ^ 52 + 2 ^ 52) (b / 2 ^ 52 + 1021) parts g n k in (
+          (let z : p < 0x7ff0_0000_0000_0000 = omega arith in z),
+          ap (ofBits binary64) (sym q) ∙ root-is b (b % 2 ^ 52 + 2 ^ 52) (b / 2 ^ 52 + 1021) parts g n k,
+        )
+
+    go : (v : Verdict) → Says ((b % 2 ^ 52 + 2 ^ 52) * 2 ^ ((b / 2 ^ 52 + 1021) % 2) * 2 ^ 52) r v → Certified b c v
+    go Nearest k = at r c e k
+    go TooLow k = at (r + 1) (c + 1) (omega arith) k
+    go TooHigh k = let p = k .0 in (omega arith, at (r - 1) (c - 1) (omega arith) (k .1))
+    go Unknown k = tt
+
+returns-2 : tie.Need-returns-2
+returns-2 c =
+    let r = c .before .before .before .wrapping-sub-u64 .result in
+    certified (c .before .before .before .before .args .b) (c .before .before .before .before .args .c) r (c .before .before .before .before .pre .0) (c .before .before .before .before .pre .1)
+    (pattern-is (c .before .before .before .before .args .b) (c .before .before .before .before .args .c) r (c .before .before .before .before .pre .0) (c .before .before .before .before .pre .1) (c .before .before .if1 .left) (c .before .before .before .wrapping-sub-u64 .ensures))
+    (c .judged .result)
+    (subst (λ (x : ℕ). Says (x * 2 ^ 52) r (c .judged .result)) (radicand (c .before)) (subst (λ (v : Verdict). Says (c .before .radicand .result * 2 ^ 52) r v) (sym (c .judged .ensures)) (verdict-says (c .before .radicand .result * 2 ^ 52) r)))
+
+pub root-judged-spec : {M : Type 1} → statement M
+root-judged-spec = tie.close (tie.spec add-biased sub-wrapping-sub-u64 wrapping-sub-u64-requires returns radicand-requires judged-requires returns-2)

@@ -1,0 +1,96 @@
+-- Laws of questions asked in turn. Assumes nothing.
+use Prim.Native.Nat.{ℕ, zero, suc, _≤_}
+use mathlib.Core.Path.{_≡_, refl, sym, ap, _∙_}
+use mathlib.Core.Bool.{Bool, true, false}
+use mathlib.Core.List.{List, [], _∷_}
+use native.Mathlib.Omega.{arith}
+use Rattle.trees.specs.Tree.{Tree, done, ask, run, after, AtMost, ended, asking}
+use Rattle.trees.proofs.TreeLaws.{run-after}
+use Rattle.trees.specs.InTurn.{answered, inTurn, Bounded, none, one}
+
+module _ {Q S : Type 0} (answer : Q → Bool) (add : S → Q → S) where
+  -- the end of the questions in turn, from the state s
+  abbrev pub finish : Bool → S → List Q → S
+  finish stop s qs = run answer (inTurn add stop s qs)
+
+  -- what is left after the first answer: after a no the other questions, from the same state; after a yes those, from the state with it; with `stop` none
+  told : (stop : Bool) (s : S) (q : Q) (qs : List Q) {yes : Bool} → answer q ≡ yes → after answer 1 (inTurn add stop s (q ∷ qs)) ≡ answered add stop yes s q (λ s′. inTurn add stop s′ qs)
+  unfolding after inTurn
+  told stop s q qs h = ap (λ (yes : Bool). answered add stop yes s q (λ s′. inTurn add stop s′ qs)) h
+
+  pub after-no : (stop : Bool) (s : S) (q : Q) (qs : List Q) → answer q ≡ false → after answer 1 (inTurn add stop s (q ∷ qs)) ≡ inTurn add stop s qs
+  unfolding answered
+  after-no stop s q qs h = told stop s q qs h
+
+  pub after-yes : (s : S) (q : Q) (qs : List Q) → answer q ≡ true → after answer 1 (inTurn add false s (q ∷ qs)) ≡ inTurn add false (add s q) qs
+  unfolding answered
+  after-yes s q qs h = told false s q qs h
+
+  pub after-stop : (s : S) (q : Q) (qs : List Q) → answer q ≡ true → after answer 1 (inTurn add true s (q ∷ qs)) ≡ done (add s q)
+  unfolding answered
+  after-stop s q qs h = told true s q qs h
+
+  -- and so the end
+  ends : (t : Tree Q Bool S) {u : Tree Q Bool S} → after answer 1 t ≡ u → run answer t ≡ run answer u
+  ends t h = sym (run-after answer 1 t) ∙ ap (λ (z : Tree Q Bool S). run answer z) h
+
+  pub run-no : (stop : Bool) (s : S) (q : Q) (qs : List Q) → answer q ≡ false → finish stop s (q ∷ qs) ≡ finish stop s qs
+  run-no stop s q qs h = ends _ (after-no stop s q qs h)
+
+  pub run-yes : (s : S) (q : Q) (qs : List Q) → answer q ≡ true → finish false s (q ∷ qs) ≡ finish false (add s q) qs
+  run-yes s q qs h = ends _ (after-yes s q qs h)
+
+  pub run-stop : (s : S) (q : Q) (qs : List Q) → answer q ≡ true → finish true s (q ∷ qs) ≡ add s q
+  unfolding run
+  run-stop s q qs h = ends _ (after-stop s q qs h)
+
+  answered-keeps : {P : S → Type 0} (stop yes : Bool) (s : S) (q : Q) (rest : S → Tree Q Bool S) → P s → (yes ≡ true → P (add s q)) → ((s′ : S) → P s′ → P (run answer (rest s′))) → P (run answer (answered add stop yes s q rest))
+  unfolding answered run
+  answered-keeps stop false s q rest p keeps h = h s p
+  answered-keeps false true s q rest p keeps h = h (add s q) (keeps refl)
+  answered-keeps true true s q rest p keeps h = keeps refl
+
+  -- what each yes keeps is kept to the end
+  pub finish-keeps : {G : Q → Type 0} {P : S → Type 0} → ((s : S) (q : Q) → G q → answer q ≡ true → P s → P (add s q)) → (stop : Bool) (s : S) {n : ℕ} {qs : List Q} → Bounded G n qs → P s → P (finish stop s qs)
+  unfolding run inTurn
+  finish-keeps keeps stop s none p = p
+  finish-keeps keeps stop s (one {q} {qs} g gs) p =
+      answered-keeps stop (answer q) s q _ p (λ h. keeps s q g h p) (λ s′ p′. finish-keeps keeps stop s′ gs p′)
+
+  answered-related : (R : S → S → Type 0) → ((s s′ : S) (q : Q) → R s s′ → R (add s q) (add s′ q)) → (stop yes : Bool) (s s′ : S) (q : Q) (rest : S → Tree Q Bool S) → R s s′ → ((z z′ : S) → R z z′ → R (run answer (rest z)) (run answer (rest z′))) → R (run answer (answered add stop yes s q rest)) (run answer (answered add stop yes s′ q rest))
+  unfolding answered run
+  answered-related R keeps stop false s s′ q rest r h = h s s′ r
+  answered-related R keeps false true s s′ q rest r h = h (add s q) (add s′ q) (keeps s s′ q r)
+  answered-related R keeps true true s s′ q rest r h = keeps s s′ q r
+
+  -- states that every yes keeps alike are alike at the end
+  pub finish-related : (R : S → S → Type 0) → ((s s′ : S) (q : Q) → R s s′ → R (add s q) (add s′ q)) → (stop : Bool) (s s′ : S) (qs : List Q) → R s s′ → R (finish stop s qs) (finish stop s′ qs)
+  unfolding run inTurn
+  finish-related R keeps stop s s′ [] r = r
+  finish-related R keeps stop s s′ (q ∷ qs) r =
+      answered-related R keeps stop (answer q) s s′ q _ r (λ z z′ r′. finish-related R keeps stop z z′ qs r′)
+
+module _ {Q S : Type 0} (add : S → Q → S) where
+  answered-at-most : {n : ℕ} (stop yes : Bool) (s : S) (q : Q) (rest : S → Tree Q Bool S) → ((s′ : S) → AtMost n (rest s′)) → AtMost n (answered add stop yes s q rest)
+  unfolding answered
+  answered-at-most stop false s q rest h = h s
+  answered-at-most false true s q rest h = h (add s q)
+  answered-at-most true true s q rest h = ended
+
+  -- no more questions are asked than there are
+  pub in-turn-at-most : {G : Q → Type 0} (stop : Bool) (s : S) {n : ℕ} {qs : List Q} → Bounded G n qs → AtMost n (inTurn add stop s qs)
+  unfolding inTurn
+  in-turn-at-most stop s none = ended
+  in-turn-at-most stop s (one {q} {qs} g gs) = asking (λ yes. answered-at-most stop yes s q _ (λ s′. in-turn-at-most stop s′ gs))
+
+-- a bound may be larger
+pub bounded-more : {Q : Type 0} {G : Q → Type 0} {n : ℕ} {qs : List Q} → Bounded G n qs → Bounded G (suc n) qs
+bounded-more none = none
+bounded-more (one g gs) = one g (bounded-more gs)
+
+pub bounded-le : {Q : Type 0} {G : Q → Type 0} {n m : ℕ} {qs : List Q} → Bounded G n qs → n ≤ m → Bounded G m qs
+bounded-le none h = none
+bounded-le {m = zero} (one g gs) h = absurd (let more : ⊥ = omega arith in more)
+bounded-le {m = suc m} (one {n} g gs) h =
+    let less : n ≤ m = omega arith in
+    one g (bounded-le gs less)

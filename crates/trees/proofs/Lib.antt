@@ -1,0 +1,3 @@
+-- The laws of `trees`.
+pub mod TreeLaws
+pub mod InTurnLaws

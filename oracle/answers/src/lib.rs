@@ -1,0 +1,253 @@
+//! What is asked of step 1 and what it answers, as plain numbers that every choice of functions shares.
+#![no_std]
+
+mod wrapper;
+
+pub use wrapper::{plan, refused_before_planning};
+
+/// A move's 13 numbers, in the order of document 01's record.
+#[derive(Clone, Copy, Debug, PartialEq)]
+pub struct Move {
+    pub p0: f64,
+    pub v0: f64,
+    pub a0: f64,
+    pub pf: f64,
+    pub vf: f64,
+    pub af: f64,
+    pub limits: Limits,
+    pub brake: f64,
+    pub accel: f64,
+}
+
+#[derive(Clone, Copy, Debug, PartialEq)]
+pub struct Limits {
+    pub v_max: f64,
+    pub v_min: f64,
+    pub a_max: f64,
+    pub a_min: f64,
+    pub j_max: f64,
+}
+
+impl Move {
+    pub fn from_numbers(numbers: [f64; 13]) -> Self {
+        let [p0, v0, a0, pf, vf, af, v_max, v_min, a_max, a_min, j_max, brake, accel] = numbers;
+        let limits = Limits {
+            v_max,
+            v_min,
+            a_max,
+            a_min,
+            j_max,
+        };
+        Move {
+            p0,
+            v0,
+            a0,
+            pf,
+            vf,
+            af,
+            limits,
+            brake,
+            accel,
+        }
+    }
+
+    pub fn numbers(&self) -> [f64; 13] {
+        let Limits {
+            v_max,
+            v_min,
+            a_max,
+            a_min,
+            j_max,
+        } = self.limits;
+        let Move {
+            p0,
+            v0,
+            a0,
+            pf,
+            vf,
+            af,
+            brake,
+            accel,
+            ..
+        } = *self;
+        [
+            p0, v0, a0, pf, vf, af, v_max, v_min, a_max, a_min, j_max, brake, accel,
+        ]
+    }
+}
+
+impl Limits {
+    /// The limits for the opposite direction.
+    pub fn swapped(&self) -> Self {
+        Limits {
+            v_max: self.v_min,
+            v_min: self.v_max,
+            a_max: self.a_min,
+            a_min: self.a_max,
+            j_max: -self.j_max,
+        }
+    }
+}
+
+/// The names of the source's enums, in the order of their cases.
+pub const DIRECTIONS: [&str; 2] = ["UP", "DOWN"];
+pub const LIMITS: [&str; 8] = [
+    "Acc0Acc1Vel",
+    "Vel",
+    "Acc0",
+    "Acc1",
+    "Acc0Acc1",
+    "Acc0Vel",
+    "Acc1Vel",
+    "None",
+];
+pub const CONTROL_SIGNS: [&str; 2] = ["UDDU", "UDUD"];
+
+/// A profile's numbers; its three enums stand as places in the lists of names above.
+#[derive(Clone, Copy, Debug, PartialEq)]
+pub struct Profile {
+    pub direction: usize,
+    pub limits: usize,
+    pub control_signs: usize,
+    pub t: [f64; 7],
+    pub t_sum: [f64; 7],
+    pub j: [f64; 7],
+    pub a: [f64; 8],
+    pub v: [f64; 8],
+    pub p: [f64; 8],
+    pub pf: f64,
+    pub vf: f64,
+    pub af: f64,
+    pub brake: f64,
+    pub accel: f64,
+}
+
+impl Profile {
+    /// All doubles 0, UP, UDDU, limits None.
+    pub const EMPTY: Profile = Profile {
+        direction: 0,
+        limits: 7,
+        control_signs: 0,
+        t: [0.0; 7],
+        t_sum: [0.0; 7],
+        j: [0.0; 7],
+        a: [0.0; 8],
+        v: [0.0; 8],
+        p: [0.0; 8],
+        pf: 0.0,
+        vf: 0.0,
+        af: 0.0,
+        brake: 0.0,
+        accel: 0.0,
+    };
+}
+
+/// Times at which a move can't end.
+#[derive(Clone, Copy, Debug, PartialEq)]
+pub enum Stretch {
+    Nothing,
+    Between(f64, f64),
+    From(f64),
+}
+
+impl Stretch {
+    /// Left and right end, where there is a stretch; "from a time on" ends at infinity.
+    pub fn ends(&self) -> Option<[f64; 2]> {
+        match *self {
+            Stretch::Nothing => None,
+            Stretch::Between(left, right) => Some([left, right]),
+            Stretch::From(left) => Some([left, f64::INFINITY]),
+        }
+    }
+}
+
+#[derive(Clone, Copy, Debug, PartialEq)]
+pub struct Plan {
+    pub shortest: f64,
+    pub profile: Profile,
+    /// Each stretch with the profile beside it.
+    pub stretches: [(Stretch, Profile); 2],
+    /// How many profiles were accepted, before any is removed; 0 for zero limits, which have no list.
+    pub accepted: usize,
+}
+
+/// A call of `check`: limits and control signs stand as places in their lists of names.
+#[derive(Clone, Copy, Debug, PartialEq)]
+pub struct Check {
+    /// p0 v0 a0 pf vf af.
+    pub boundary: [f64; 6],
+    pub t: [f64; 7],
+    pub jf: f64,
+    /// v_max v_min a_max a_min.
+    pub bounds: [f64; 4],
+    pub limits: usize,
+    pub control_signs: usize,
+    pub set_limits: bool,
+}
+
+/// The families, in the source's order.
+pub const FAMILIES: [&str; 8] = [
+    "time_all_vel",
+    "time_acc0_acc1",
+    "time_all_none_acc0_acc1",
+    "time_acc1_vel_two_step",
+    "time_acc0_two_step",
+    "time_vel_two_step",
+    "time_none_two_step",
+    "time_all_single_step",
+];
+
+/// A call of one family on a list that counts some profiles already.
+#[derive(Clone, Copy, Debug, PartialEq)]
+pub struct FamilyCall {
+    pub asked: Move,
+    /// A place in `FAMILIES`.
+    pub family: usize,
+    /// Whether the limits go in swapped, with -j_max.
+    pub opposite: bool,
+    pub return_after_found: bool,
+    pub counted: usize,
+}
+
+/// Up to N things in order.
+#[derive(Clone, Copy, Debug, PartialEq)]
+pub struct List<T, const N: usize> {
+    items: [T; N],
+    count: usize,
+}
+
+impl<T: Copy, const N: usize> List<T, N> {
+    pub fn new(filler: T) -> Self {
+        List {
+            items: [filler; N],
+            count: 0,
+        }
+    }
+
+    pub fn push(&mut self, item: T) {
+        self.items[self.count] = item;
+        self.count += 1;
+    }
+
+    pub fn as_slice(&self) -> &[T] {
+        &self.items[..self.count]
+    }
+}
+
+/// Step 1 with one choice of functions.
+pub trait Step1 {
+    /// `get_profile` on a fresh planner and block; if it says no, how many profiles were accepted.
+    fn get_profile(asked: &Move) -> Result<Plan, usize>;
+
+    /// `solve_quart_monic_coeffs`, in the order in which the families read the list.
+    fn quartic(coefficients: [f64; 4]) -> List<f64, 4>;
+
+    /// `solve_resolvent`: how many zeros it says there are, and its three numbers.
+    fn resolvent(coefficients: [f64; 3]) -> (usize, [f64; 3]);
+
+    /// `check` on a fresh profile with this boundary and these times: the filled profile on a yes.
+    fn check(call: &Check) -> Option<Profile>;
+
+    /// The profiles that one family adds to the list, on a fresh planner.
+    fn family(call: &FamilyCall) -> List<Profile, 6>;
+}

@@ -1,0 +1,218 @@
+//! Document 01's examples, through the programs, byte for byte.
+
+use answers::Move;
+use programs::records::write_move;
+use std::io::Write;
+use std::process::{Command, Stdio};
+
+const PLAN_MOVES: &str = env!("CARGO_BIN_EXE_plan_moves");
+const PLAN_FULL: &str = env!("CARGO_BIN_EXE_plan_full");
+
+/// p0 v0 a0 pf vf af and j_max, with v limits 1, -1, a limits 1, -1, durations 0.
+fn simple([p0, v0, a0, pf, vf, af, j_max]: [f64; 7]) -> [f64; 13] {
+    [
+        p0, v0, a0, pf, vf, af, 1.0, -1.0, 1.0, -1.0, j_max, 0.0, 0.0,
+    ]
+}
+
+fn records(moves: &[[f64; 13]]) -> Vec<u8> {
+    let mut bytes = Vec::new();
+    for &numbers in moves {
+        write_move(&mut bytes, &Move::from_numbers(numbers)).unwrap();
+    }
+    bytes
+}
+
+/// A program's output, where it ends well.
+fn output(program: &str, arguments: &[&str], input: &[u8]) -> String {
+    let mut child = Command::new(program)
+        .args(arguments)
+        .stdin(Stdio::piped())
+        .stdout(Stdio::piped())
+        .spawn()
+        .unwrap();
+    child.stdin.take().unwrap().write_all(input).unwrap();
+    let output = child.wait_with_output().unwrap();
+    assert!(output.status.success());
+    String::from_utf8(output.stdout).unwrap()
+}
+
+fn plan_moves(input: &[u8]) -> String {
+    output(PLAN_MOVES, &[], input)
+}
+
+fn four_moves() -> [[f64; 13]; 4] {
+    [
+        simple([0.0, 0.0, 0.0, 0.0, 0.0, 0.0, 1.0]),
+        simple([0.0, 0.0, 0.0, 4.0, 0.0, 0.0, 1.0]),
+        simple([0.0, 1.0, 0.0, 3.0, 1.0, 0.0, 0.0]),
+        simple([0.0, 0.0, 0.0, 1.0, 0.0, 0.0, 0.0]),
+    ]
+}
+
+const FOUR_LINES: &str = "plan 1
+1 ok 0000000000000000 UP None 0
+2 ok 4018000000000000 UP Vel 0
+3 ok 4008000000000000 UP None 1 4008000000000000 7FF0000000000000
+4 refused 4
+";
+
+#[test]
+fn the_four_moves() {
+    assert_eq!(plan_moves(&records(&four_moves())), FOUR_LINES);
+    for choice in ["exact", "std", "libc"] {
+        let lines = output(
+            PLAN_MOVES,
+            &["--functions", choice],
+            &records(&four_moves()),
+        );
+        assert_eq!(lines, FOUR_LINES);
+    }
+}
+
+#[test]
+fn the_way_back() {
+    let lines = plan_moves(&records(&[simple([0.0, 0.0, 0.0, -4.0, 0.0, 0.0, 1.0])]));
+    assert_eq!(lines, "plan 1\n1 ok 4018000000000000 DOWN Vel 0\n");
+}
+
+#[test]
+fn nothing_in_gives_the_first_line_only() {
+    assert_eq!(plan_moves(&[]), "plan 1\n");
+    assert_eq!(output(PLAN_FULL, &[], &[]), "");
+}
+
+/// A move of ordinary size with four accepted profiles of which no rule removes one.
+#[test]
+fn refusal_5() {
+    let next = 1.0 + f64::EPSILON;
+    let numbers = [
+        1.0, 0.5, -1.0, next, -0.5, -1.0, 1.0, -2.0, 2.0, -2.0, 1.0, 0.0, 0.0,
+    ];
+    assert_eq!(plan_moves(&records(&[numbers])), "plan 1\n1 refused 5\n");
+}
+
+/// The line for the second move with some of its 13 numbers replaced.
+fn refused(replaced: &[(usize, f64)]) -> String {
+    let mut numbers = four_moves()[1];
+    for &(place, value) in replaced {
+        numbers[place] = value;
+    }
+    plan_moves(&records(&[numbers]))
+        .lines()
+        .nth(1)
+        .unwrap()
+        .to_string()
+}
+
+#[test]
+fn refusals_1_to_3_in_order() {
+    for place in 0..13 {
+        for value in [f64::NAN, f64::INFINITY, f64::NEG_INFINITY] {
+            assert_eq!(refused(&[(place, value)]), "1 refused 1");
+            assert_eq!(
+                refused(&[(6, -1.0), (11, -1.0), (place, value)]),
+                "1 refused 1"
+            );
+        }
+    }
+    for (place, value) in [(6, -5e-324), (7, 5e-324), (8, -1.0), (9, 1.0), (10, -1.0)] {
+        assert_eq!(refused(&[(place, value)]), "1 refused 2");
+        assert_eq!(refused(&[(11, -1.0), (place, value)]), "1 refused 2");
+    }
+    for place in [11, 12] {
+        for value in [-5e-324, f64::from_bits(1e12f64.to_bits() + 1)] {
+            assert_eq!(refused(&[(place, value)]), "1 refused 3");
+        }
+        assert!(refused(&[(place, 1e12)]).starts_with("1 ok"));
+        assert!(refused(&[(place, -0.0)]).starts_with("1 ok"));
+    }
+}
+
+#[test]
+fn refusal_8_ends_the_program() {
+    let right = records(&four_moves());
+    let (one, two) = (&right[..107], &right[107..214]);
+    let mut wrong_length = two.to_vec();
+    wrong_length[1] = 104;
+    let mut wrong_version = two.to_vec();
+    wrong_version[2] = 2;
+    let mut nan_in_wrong_version = wrong_version.clone();
+    nan_in_wrong_version[3..11].fill(0xFF);
+    for second in [
+        &two[..1],
+        &two[..2],
+        &two[..3],
+        &two[..106],
+        &wrong_length,
+        &wrong_version,
+        &nan_in_wrong_version,
+    ] {
+        let lines = plan_moves(&[one, second].concat());
+        assert_eq!(
+            lines,
+            "plan 1\n1 ok 0000000000000000 UP None 0\n2 refused 8\n"
+        );
+    }
+    let lines = plan_moves(&[wrong_version.as_slice(), one].concat());
+    assert_eq!(lines, "plan 1\n1 refused 8\n");
+    assert_eq!(
+        output(PLAN_FULL, &[], &[one, &one[..50]].concat())
+            .lines()
+            .last(),
+        Some("2 refused 8")
+    );
+}
+
+#[test]
+fn plan_full_has_every_number() {
+    let lines = output(PLAN_FULL, &[], &records(&four_moves()));
+    let lines: Vec<Vec<&str>> = lines
+        .lines()
+        .map(|line| line.split(' ').collect())
+        .collect();
+    const PROFILE: usize = 3 + 3 * 7 + 3 * 8 + 5;
+    for line in &lines[..3] {
+        assert_eq!(line.len(), 3 + PROFILE + 2 * (3 + PROFILE));
+    }
+    let empty = [
+        vec!["UP", "None", "UDDU"],
+        vec!["0000000000000000"; PROFILE - 3],
+    ]
+    .concat();
+    let second = &lines[1];
+    assert_eq!(
+        second[..6],
+        ["2", "ok", "4018000000000000", "UP", "Vel", "UDDU"]
+    );
+    let nothing = [
+        vec!["nothing", "0000000000000000", "0000000000000000"],
+        empty.clone(),
+    ]
+    .concat();
+    assert_eq!(
+        second[3 + PROFILE..],
+        [nothing.clone(), nothing.clone()].concat()
+    );
+    let from = [vec!["from", "4008000000000000", "7FF0000000000000"], empty].concat();
+    assert_eq!(lines[2][3 + PROFILE..], [from, nothing].concat());
+    assert_eq!(lines[3], ["4", "refused", "4"]);
+}
+
+#[test]
+fn bad_usage_is_said() {
+    for arguments in [
+        vec!["--functions"],
+        vec!["--functions", "fast"],
+        vec!["moves.bin"],
+    ] {
+        let output = Command::new(PLAN_MOVES)
+            .args(arguments)
+            .stdin(Stdio::null())
+            .output()
+            .unwrap();
+        assert_eq!(output.status.code(), Some(2));
+        let message = String::from_utf8(output.stderr).unwrap();
+        assert!(message.contains("usage: plan_moves"), "{message}");
+    }
+}
