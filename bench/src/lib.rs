@@ -1,5 +1,9 @@
 //! The functions of the archive, safe to call, and the generator of arguments that the programs share.
 
+pub mod plan_inputs;
+pub mod plan_tally;
+pub mod plans;
+
 mod archive {
     extern "C" {
         pub fn girnhusk_sqrt(x: f64) -> f64;

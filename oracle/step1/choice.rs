@@ -20,6 +20,17 @@ impl Step1 for Choice {
         }
     }
 
+    fn is_blocked(plan: &Plan, t: f64) -> bool {
+        let [a, b] = plan.stretches.map(|(stretch, _)| interval_of(&stretch));
+        let block = Block {
+            t_min: plan.shortest,
+            a,
+            b,
+            ..Default::default()
+        };
+        block.is_blocked(t)
+    }
+
     fn quartic(coefficients: [f64; 4]) -> List<f64, 4> {
         let mut list = List::new(0.0);
         for root in roots::solve_quart_monic_arr(&coefficients) {
@@ -169,6 +180,13 @@ fn stretch_of(interval: &Option<Interval>) -> (Stretch, answers::Profile) {
             (stretch, numbers_of(&interval.profile))
         }
     }
+}
+
+/// A stretch as a block holds it, without the profile beside it.
+fn interval_of(stretch: &Stretch) -> Option<Interval> {
+    stretch
+        .ends()
+        .map(|[left, right]| Interval::new(left, right))
 }
 
 fn numbers_of(profile: &Profile) -> answers::Profile {

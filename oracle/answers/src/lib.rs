@@ -239,6 +239,9 @@ pub trait Step1 {
     /// `get_profile` on a fresh planner and block; if it says no, how many profiles were accepted.
     fn get_profile(asked: &Move) -> Result<Plan, usize>;
 
+    /// `is_blocked` of a plan's block.
+    fn is_blocked(plan: &Plan, t: f64) -> bool;
+
     /// `solve_quart_monic_coeffs`, in the order in which the families read the list.
     fn quartic(coefficients: [f64; 4]) -> List<f64, 4>;
 

@@ -70,6 +70,19 @@ pub fn generate(usage: &str, writer_of: impl FnOnce(&str) -> Option<Writer>) -> 
     })
 }
 
+/// Runs a program whose arguments are SEED and COUNT.
+pub fn count(
+    usage: &str,
+    body: impl FnOnce(u64, u64, &mut dyn Write) -> Result<(), Stop>,
+) -> ExitCode {
+    run(usage, |arguments, output| {
+        let [seed, count] = arguments else {
+            return Err(usage_error("two arguments are needed"));
+        };
+        body(number("SEED", seed)?, number("COUNT", count)?, output)
+    })
+}
+
 fn parse_options(arguments: &[String], options: &[&str]) -> Result<(Oracle, Vec<String>), Stop> {
     let mut choice = "exact".to_string();
     let mut given = Vec::new();

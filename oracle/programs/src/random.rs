@@ -69,11 +69,37 @@ pub fn nudged(number: f64, places: i64) -> f64 {
     f64::from_bits(in_order(moved) as u64)
 }
 
+/// The double halfway between two others in the doubles' order; the lower of two neighbours.
+pub fn halfway(one: f64, other: f64) -> f64 {
+    let (a, b) = (
+        in_order(one.to_bits() as i64),
+        in_order(other.to_bits() as i64),
+    );
+    f64::from_bits(in_order((a & b) + ((a ^ b) >> 1)) as u64)
+}
+
 /// A double's bits, read with a sign, turned into a whole number in the doubles' order; and back.
 fn in_order(bits: i64) -> i64 {
     if bits < 0 {
         i64::MIN.wrapping_sub(bits)
     } else {
         bits
+    }
+}
+
+#[cfg(test)]
+mod tests {
+    use super::{halfway, nudged};
+
+    #[test]
+    fn halfway_lies_between_and_ends_beside() {
+        assert_eq!(halfway(1.0, 4.0), 2.0);
+        assert_eq!(halfway(-1.0, 1.0), 0.0);
+        assert_eq!(halfway(f64::MAX, f64::MIN), 0.0);
+        for low in [-3.0, nudged(0.0, -1), 0.0, 5.0] {
+            let high = nudged(low, 1);
+            assert_eq!(halfway(low, high), low);
+            assert_eq!(halfway(high, low), low);
+        }
     }
 }

@@ -1,9 +1,10 @@
 //! Document 01's examples, through the programs, byte for byte.
 
-use answers::Move;
+use answers::{plan, Move, Step1};
 use programs::records::write_move;
 use std::io::Write;
 use std::process::{Command, Stdio};
+use step1_exact::Choice;
 
 const PLAN_MOVES: &str = env!("CARGO_BIN_EXE_plan_moves");
 const PLAN_FULL: &str = env!("CARGO_BIN_EXE_plan_full");
@@ -74,6 +75,14 @@ fn the_four_moves() {
 fn the_way_back() {
     let lines = plan_moves(&records(&[simple([0.0, 0.0, 0.0, -4.0, 0.0, 0.0, 1.0])]));
     assert_eq!(lines, "plan 1\n1 ok 4018000000000000 DOWN Vel 0\n");
+}
+
+#[test]
+fn the_third_move_blocks_all_durations_but_one() {
+    let third = plan::<Choice>(&Move::from_numbers(four_moves()[2])).unwrap();
+    for (t, blocked) in [(2.5, true), (3.0, false), (4.0, true)] {
+        assert_eq!(Choice::is_blocked(&third, t), blocked, "{t}");
+    }
 }
 
 #[test]

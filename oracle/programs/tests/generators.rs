@@ -47,6 +47,7 @@ fn a_seed_always_means_the_same_moves() {
         ("scale", 0xD68BA24AFE1CE30A),
         ("edge", 0xC80C0FED6BDFC3AF),
         ("blocked", 0xDE90C98AA53CD0AC),
+        ("neighbours", 0xF68F4EDFD94DC85F),
     ];
     let found = stored.map(|(name, _)| {
         let mut bytes = Vec::new();
@@ -169,6 +170,20 @@ fn blocked_moves_have_stretches() {
     assert!(share(&plans, |planned| stretches(planned) == 2) > 0.15);
     let five = |planned: &Result<Plan, u8>| planned.as_ref().is_ok_and(|plan| plan.accepted == 5);
     assert!(share(&plans, five) > 0.15);
+}
+
+#[test]
+fn neighbours_meet_refusals_2_to_4_and_most_counts() {
+    let plans = plans("neighbours");
+    for number in 2..=4 {
+        let refused = |planned: &Result<Plan, u8>| planned.as_ref().err() == Some(&number);
+        assert!(share(&plans, refused) > 0.01, "{number}");
+    }
+    for count in [0, 1, 2, 3, 5] {
+        let accepted =
+            |planned: &Result<Plan, u8>| planned.as_ref().is_ok_and(|plan| plan.accepted == count);
+        assert!(plans.iter().any(accepted), "{count}");
+    }
 }
 
 #[test]

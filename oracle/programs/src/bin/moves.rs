@@ -6,7 +6,7 @@ use programs::records::write_move;
 use std::process::ExitCode;
 
 fn main() -> ExitCode {
-    let usage = "moves SEED ordinary|rest|zero|wild|scale|edge|blocked COUNT > MOVES";
+    let usage = "moves SEED ordinary|rest|zero|wild|scale|edge|blocked|neighbours COUNT > MOVES";
     command::generate(usage, |kind| {
         let (_, make) = KINDS.into_iter().find(|(name, _)| *name == kind)?;
         let write: Writer = Box::new(move |random, output| write_move(output, &make(random)));

@@ -1,4 +1,4 @@
-//! Moves of seven kinds.
+//! Moves of eight kinds.
 
 use crate::generators::motion::State;
 use crate::random::{nudged, power_of_two, Random};
@@ -8,7 +8,7 @@ use answers::{Limits, Move};
 pub type Maker = fn(&mut Random) -> Move;
 
 /// The kinds of moves by name.
-pub const KINDS: [(&str, Maker); 7] = [
+pub const KINDS: [(&str, Maker); 8] = [
     ("ordinary", ordinary),
     ("rest", rest),
     ("zero", zero),
@@ -16,6 +16,7 @@ pub const KINDS: [(&str, Maker); 7] = [
     ("scale", scale),
     ("edge", edge),
     ("blocked", blocked),
+    ("neighbours", neighbours),
 ];
 
 /// What an axis of a machine is asked, in metres or millimetres: half with both ends moving, the others coming to rest.
@@ -386,4 +387,13 @@ fn blocked_twice(random: &mut Random) -> Move {
         af: way * af,
         ..start
     }
+}
+
+/// An `edge` or a `blocked` move with one of its 13 numbers one place up or down.
+pub fn neighbours(random: &mut Random) -> Move {
+    let near = random.pick(&[edge as Maker, blocked]);
+    let mut numbers = near(random).numbers();
+    let place = random.below(13) as usize;
+    numbers[place] = nudged(numbers[place], random.pick(&[1, -1]));
+    Move::from_numbers(numbers)
 }

@@ -1,0 +1,30 @@
+-- Families one after the other. Definitions only.
+use mathlib.Core.Bool.{Bool, true, false}
+use mathlib.Core.List.{List, [], _∷_}
+use lib.Dec.{ltb}
+use Rattle.trees.specs.Tree.{done, bind}
+use Rattle.candidates.specs.declared.Candidates.{Candidates}
+use Rattle.position_third_step1.specs.Plan.{Plan}
+
+-- from a list of accepted profiles to the checks that are made, and the list at their end
+abbrev pub Family : Type 0
+Family = Candidates → Plan
+
+-- some profile counts
+abbrev pub isFound : Candidates → Bool
+isFound c = ltb 0 (c .«current_index»)
+
+-- a list that has a profile stays as it is; else the family is tried
+unfoldable pub unlessFound : (found : Bool) → Family → Family
+unlessFound true f c = done c
+unlessFound false f c = f c
+
+-- all of them
+unfoldable pub eachOf : List Family → Family
+eachOf [] c = done c
+eachOf (f ∷ fs) c = bind (f c) (λ d. eachOf fs d)
+
+-- up to the first that finds a profile
+unfoldable pub firstOf : List Family → Family
+firstOf [] c = done c
+firstOf (f ∷ fs) c = bind (f c) (λ d. unlessFound (isFound d) (firstOf fs) d)

@@ -1,0 +1,198 @@
+// `get_profile` of position_third_step1.rs: which families are tried for a move, and what is selected of what they find.
+
+ghost use mathlib.Core.Path.{_≡_};
+ghost use Rattle.trees.specs.Tree.{run};
+ghost use Rattle.position_third_step1.specs.Plan.{found};
+ghost use Rattle.phase_times.specs.GetProfileTests.{endsAtRest, restsAtTarget};
+ghost use Rattle.get_profile.specs.GetProfile.{restingOneWay, restingBothWays, moving, twoStep, towardsTarget, firstSearch, tryFamilies, afterPassing, singleStepAnswer, selectedFrom, getProfileAnswer};
+use block::Answer;
+use block::Block;
+use block::Interval;
+use candidates::Candidates;
+use phase_times::constants::Constants;
+use phase_times::get_profile_tests::ends_at_rest;
+use phase_times::get_profile_tests::has_zero_limit;
+use phase_times::get_profile_tests::points_up;
+use phase_times::get_profile_tests::rests_at_target;
+use phase_times::time_all_single_step::starts_accelerated;
+use phase_times::time_all_single_step::starts_moving;
+use position_third_step1::time_acc0_acc1;
+use position_third_step1::time_acc0_two_step;
+use position_third_step1::time_acc1_vel_two_step;
+use position_third_step1::time_all_none_acc0_acc1;
+use position_third_step1::time_all_single_step;
+use position_third_step1::time_all_vel;
+use position_third_step1::time_none_two_step;
+use position_third_step1::time_vel_two_step;
+use profile::Limits;
+use profile::Profile;
+use profile::Start;
+use profile::Target;
+use profile_check::Checked;
+
+// A resting target, in one direction.
+fn resting_one_way(
+    c: Candidates,
+    start: Start,
+    target: Target,
+    k: Constants,
+    m: Limits,
+) -> Candidates
+    ensures { λ r. ⌜ r ≡ found (restingOneWay start target k m c) ⌝ }
+{
+    let c1 = time_all_vel(c, start, target, k, m);
+    if c1.current_index > 0 {
+        return c1;
+    }
+    let c2 = time_all_none_acc0_acc1(c1, start, target, k, m, true);
+    if c2.current_index > 0 {
+        return c2;
+    }
+    time_acc0_acc1(c2, start, target, k, m, true)
+}
+
+fn resting_both_ways(
+    c: Candidates,
+    start: Start,
+    target: Target,
+    k: Constants,
+    m: Limits,
+) -> Candidates
+    ensures { λ r. ⌜ r ≡ found (restingBothWays start target k m c) ⌝ }
+{
+    let c1 = resting_one_way(c, start, target, k, m);
+    if c1.current_index > 0 {
+        return c1;
+    }
+    resting_one_way(c1, start, target, k, m.swapped())
+}
+
+// Any other target.
+fn moving(c: Candidates, start: Start, target: Target, k: Constants, m: Limits) -> Candidates
+    ensures { λ r. ⌜ r ≡ found (moving start target k m c) ⌝ }
+{
+    let s = m.swapped();
+    let c1 = time_all_none_acc0_acc1(c, start, target, k, m, false);
+    let c2 = time_all_none_acc0_acc1(c1, start, target, k, s, false);
+    let c3 = time_acc0_acc1(c2, start, target, k, m, false);
+    let c4 = time_acc0_acc1(c3, start, target, k, s, false);
+    let c5 = time_all_vel(c4, start, target, k, m);
+    time_all_vel(c5, start, target, k, s)
+}
+
+// With none found.
+fn two_step(c: Candidates, start: Start, target: Target, k: Constants, m: Limits) -> Candidates
+    ensures { λ r. ⌜ r ≡ found (twoStep start target k m c) ⌝ }
+{
+    let s = m.swapped();
+    let c1 = time_none_two_step(c, start, target, k, m);
+    if c1.current_index > 0 {
+        return c1;
+    }
+    let c2 = time_none_two_step(c1, start, target, k, s);
+    if c2.current_index > 0 {
+        return c2;
+    }
+    let c3 = time_acc0_two_step(c2, start, target, k, m);
+    if c3.current_index > 0 {
+        return c3;
+    }
+    let c4 = time_acc0_two_step(c3, start, target, k, s);
+    if c4.current_index > 0 {
+        return c4;
+    }
+    let c5 = time_vel_two_step(c4, start, target, k, m);
+    if c5.current_index > 0 {
+        return c5;
+    }
+    let c6 = time_vel_two_step(c5, start, target, k, s);
+    if c6.current_index > 0 {
+        return c6;
+    }
+    let c7 = time_acc1_vel_two_step(c6, start, target, k, m);
+    if c7.current_index > 0 {
+        return c7;
+    }
+    time_acc1_vel_two_step(c7, start, target, k, s)
+}
+
+// The limits for the direction of pf - p0.
+fn towards_target(k: Constants, m: Limits) -> Limits
+    ensures { λ r. ⌜ r ≡ towardsTarget k m ⌝ }
+{
+    if points_up(k) {
+        return m;
+    }
+    m.swapped()
+}
+
+fn first_search(
+    c: Candidates,
+    start: Start,
+    target: Target,
+    k: Constants,
+    m: Limits,
+) -> Candidates
+    ensures { λ r. ⌜ r ≡ found (firstSearch start target k (endsAtRest target) (restsAtTarget start k) m c) ⌝ }
+{
+    if !ends_at_rest(target) {
+        return moving(c, start, target, k, m);
+    }
+    let towards = towards_target(k, m);
+    if rests_at_target(start, k) {
+        return time_all_none_acc0_acc1(c, start, target, k, towards, true);
+    }
+    resting_both_ways(c, start, target, k, towards)
+}
+
+fn try_families(
+    c: Candidates,
+    start: Start,
+    target: Target,
+    k: Constants,
+    m: Limits,
+) -> Candidates
+    ensures { λ r. ⌜ r ≡ found (tryFamilies start target k m c) ⌝ }
+{
+    let first = first_search(c, start, target, k, m);
+    if first.current_index > 0 {
+        return first;
+    }
+    two_step(first, start, target, k, m)
+}
+
+// The stretch after a single-step plan.
+fn after_passing(start: Start, q: Profile) -> Interval
+    ensures { λ r. ⌜ r ≡ afterPassing start q ⌝ }
+{
+    if starts_moving(start) | starts_accelerated(start) {
+        return Interval::from(block::duration(q));
+    }
+    Interval::none()
+}
+
+fn single_step_answer(start: Start, d: Checked) -> Answer
+    ensures { λ r. ⌜ r ≡ singleStepAnswer start d ⌝ }
+{
+    if d.ok {
+        let q = d.profile;
+        return Answer::planned(q, after_passing(start, q), Interval::none());
+    }
+    Answer::refused(4)
+}
+
+// The plan of a move with the start, the target and the durations of `input`, or a refusal with 4 or 5.
+pub fn get_profile(input: Profile, m: Limits) -> Answer
+    ensures { λ r. ⌜ r ≡ getProfileAnswer input m ⌝ }
+{
+    let start = input.start();
+    let target = input.target();
+    let k = Constants::new(start, target, m);
+    if has_zero_limit(m) {
+        let q = Profile::empty().with_boundary_from_profile(input);
+        return single_step_answer(start, time_all_single_step(q, start, target, k, m));
+    }
+    let c = try_families(Candidates::new(input), start, target, k, m);
+    let valid_profiles = c.valid_profiles;
+    Block::calculate_block(valid_profiles, c.current_index)
+}
