@@ -40,15 +40,16 @@ fn resting_one_way(
 ) -> Candidates
     ensures { λ r. ⌜ r ≡ found (restingOneWay start target k m c) ⌝ }
 {
-    let c1 = time_all_vel(c, start, target, k, m);
-    if c1.current_index > 0 {
-        return c1;
+    let mut d = time_all_vel(c, start, target, k, m);
+    if d.current_index > 0 {
+        return d;
     }
-    let c2 = time_all_none_acc0_acc1(c1, start, target, k, m, true);
-    if c2.current_index > 0 {
-        return c2;
+    d = time_all_none_acc0_acc1(d, start, target, k, m, true);
+    if d.current_index > 0 {
+        return d;
     }
-    time_acc0_acc1(c2, start, target, k, m, true)
+    d = time_acc0_acc1(d, start, target, k, m, true);
+    d
 }
 
 fn resting_both_ways(
@@ -60,11 +61,12 @@ fn resting_both_ways(
 ) -> Candidates
     ensures { λ r. ⌜ r ≡ found (restingBothWays start target k m c) ⌝ }
 {
-    let c1 = resting_one_way(c, start, target, k, m);
-    if c1.current_index > 0 {
-        return c1;
+    let mut d = resting_one_way(c, start, target, k, m);
+    if d.current_index > 0 {
+        return d;
     }
-    resting_one_way(c1, start, target, k, m.swapped())
+    d = resting_one_way(d, start, target, k, m.swapped());
+    d
 }
 
 // Any other target.
@@ -72,12 +74,13 @@ fn moving(c: Candidates, start: Start, target: Target, k: Constants, m: Limits) 
     ensures { λ r. ⌜ r ≡ found (moving start target k m c) ⌝ }
 {
     let s = m.swapped();
-    let c1 = time_all_none_acc0_acc1(c, start, target, k, m, false);
-    let c2 = time_all_none_acc0_acc1(c1, start, target, k, s, false);
-    let c3 = time_acc0_acc1(c2, start, target, k, m, false);
-    let c4 = time_acc0_acc1(c3, start, target, k, s, false);
-    let c5 = time_all_vel(c4, start, target, k, m);
-    time_all_vel(c5, start, target, k, s)
+    let mut d = time_all_none_acc0_acc1(c, start, target, k, m, false);
+    d = time_all_none_acc0_acc1(d, start, target, k, s, false);
+    d = time_acc0_acc1(d, start, target, k, m, false);
+    d = time_acc0_acc1(d, start, target, k, s, false);
+    d = time_all_vel(d, start, target, k, m);
+    d = time_all_vel(d, start, target, k, s);
+    d
 }
 
 // With none found.
@@ -85,35 +88,36 @@ fn two_step(c: Candidates, start: Start, target: Target, k: Constants, m: Limits
     ensures { λ r. ⌜ r ≡ found (twoStep start target k m c) ⌝ }
 {
     let s = m.swapped();
-    let c1 = time_none_two_step(c, start, target, k, m);
-    if c1.current_index > 0 {
-        return c1;
+    let mut d = time_none_two_step(c, start, target, k, m);
+    if d.current_index > 0 {
+        return d;
     }
-    let c2 = time_none_two_step(c1, start, target, k, s);
-    if c2.current_index > 0 {
-        return c2;
+    d = time_none_two_step(d, start, target, k, s);
+    if d.current_index > 0 {
+        return d;
     }
-    let c3 = time_acc0_two_step(c2, start, target, k, m);
-    if c3.current_index > 0 {
-        return c3;
+    d = time_acc0_two_step(d, start, target, k, m);
+    if d.current_index > 0 {
+        return d;
     }
-    let c4 = time_acc0_two_step(c3, start, target, k, s);
-    if c4.current_index > 0 {
-        return c4;
+    d = time_acc0_two_step(d, start, target, k, s);
+    if d.current_index > 0 {
+        return d;
     }
-    let c5 = time_vel_two_step(c4, start, target, k, m);
-    if c5.current_index > 0 {
-        return c5;
+    d = time_vel_two_step(d, start, target, k, m);
+    if d.current_index > 0 {
+        return d;
     }
-    let c6 = time_vel_two_step(c5, start, target, k, s);
-    if c6.current_index > 0 {
-        return c6;
+    d = time_vel_two_step(d, start, target, k, s);
+    if d.current_index > 0 {
+        return d;
     }
-    let c7 = time_acc1_vel_two_step(c6, start, target, k, m);
-    if c7.current_index > 0 {
-        return c7;
+    d = time_acc1_vel_two_step(d, start, target, k, m);
+    if d.current_index > 0 {
+        return d;
     }
-    time_acc1_vel_two_step(c7, start, target, k, s)
+    d = time_acc1_vel_two_step(d, start, target, k, s);
+    d
 }
 
 // The limits for the direction of pf - p0.
@@ -126,13 +130,7 @@ fn towards_target(k: Constants, m: Limits) -> Limits
     m.swapped()
 }
 
-fn first_search(
-    c: Candidates,
-    start: Start,
-    target: Target,
-    k: Constants,
-    m: Limits,
-) -> Candidates
+fn first_search(c: Candidates, start: Start, target: Target, k: Constants, m: Limits) -> Candidates
     ensures { λ r. ⌜ r ≡ found (firstSearch start target k (endsAtRest target) (restsAtTarget start k) m c) ⌝ }
 {
     if !ends_at_rest(target) {
@@ -145,20 +143,15 @@ fn first_search(
     resting_both_ways(c, start, target, k, towards)
 }
 
-fn try_families(
-    c: Candidates,
-    start: Start,
-    target: Target,
-    k: Constants,
-    m: Limits,
-) -> Candidates
+fn try_families(c: Candidates, start: Start, target: Target, k: Constants, m: Limits) -> Candidates
     ensures { λ r. ⌜ r ≡ found (tryFamilies start target k m c) ⌝ }
 {
-    let first = first_search(c, start, target, k, m);
-    if first.current_index > 0 {
-        return first;
+    let mut tried = first_search(c, start, target, k, m);
+    if tried.current_index > 0 {
+        return tried;
     }
-    two_step(first, start, target, k, m)
+    tried = two_step(tried, start, target, k, m);
+    tried
 }
 
 // The stretch after a single-step plan.

@@ -7,7 +7,7 @@ use Rattle.get_profile.proofs.moving.Tie as tie
 
 returns : tie.Need-returns
 unfolding moving
-returns c = 
+returns c =
     rw (← c .before .before .before .before .before .before .swapped .ensures)
     (each-on _ _ _ (c .before .before .before .before .before .time-all-none-acc0-acc1 .ensures)
     (each-on _ _ _ (c .before .before .before .before .time-all-none-acc0-acc12 .ensures)

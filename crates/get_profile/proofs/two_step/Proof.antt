@@ -7,20 +7,20 @@ use Rattle.get_profile.proofs.two_step.Tie as tie
 
 returns : tie.Need-returns
 unfolding twoStep
-returns c = 
+returns c =
     rw (← c .before .before .before .swapped .ensures)
     (first-finds _ _ _ (c .before .before .time-none-two-step .ensures) (c .if1 .taken))
 
 returns-2 : tie.Need-returns-2
 unfolding twoStep
-returns-2 c = 
+returns-2 c =
     rw (← c .before .before .before .before .before .before .swapped .ensures)
     (first-fails _ _ _ (c .before .before .before .before .before .time-none-two-step .ensures) (c .before .before .before .if1 .left)
     (first-finds _ _ _ (c .before .before .time-none-two-step2 .ensures) (c .if2 .taken)))
 
 returns-3 : tie.Need-returns-3
 unfolding twoStep
-returns-3 c = 
+returns-3 c =
     rw (← c .before .before .before .before .before .before .before .before .before .swapped .ensures)
     (first-fails _ _ _ (c .before .before .before .before .before .before .before .before .time-none-two-step .ensures) (c .before .before .before .before .before .before .if1 .left)
     (first-fails _ _ _ (c .before .before .before .before .before .time-none-two-step2 .ensures) (c .before .before .before .if2 .left)
@@ -28,7 +28,7 @@ returns-3 c =
 
 returns-4 : tie.Need-returns-4
 unfolding twoStep
-returns-4 c = 
+returns-4 c =
     rw (← c .before .before .before .before .before .before .before .before .before .before .before .before .swapped .ensures)
     (first-fails _ _ _ (c .before .before .before .before .before .before .before .before .before .before .before .time-none-two-step .ensures) (c .before .before .before .before .before .before .before .before .before .if1 .left)
     (first-fails _ _ _ (c .before .before .before .before .before .before .before .before .time-none-two-step2 .ensures) (c .before .before .before .before .before .before .if2 .left)
@@ -37,7 +37,7 @@ returns-4 c =
 
 returns-5 : tie.Need-returns-5
 unfolding twoStep
-returns-5 c = 
+returns-5 c =
     rw (← c .before .before .before .before .before .before .before .before .before .before .before .before .before .before .before .swapped .ensures)
     (first-fails _ _ _ (c .before .before .before .before .before .before .before .before .before .before .before .before .before .before .time-none-two-step .ensures) (c .before .before .before .before .before .before .before .before .before .before .before .before .if1 .left)
     (first-fails _ _ _ (c .before .before .before .before .before .before .before .before .before .before .before .time-none-two-step2 .ensures) (c .before .before .before .before .before .before .before .before .before .if2 .left)
@@ -47,7 +47,7 @@ returns-5 c =
 
 returns-6 : tie.Need-returns-6
 unfolding twoStep
-returns-6 c = 
+returns-6 c =
     rw (← c .before .before .before .before .before .before .before .before .before .before .before .before .before .before .before .before .before .before .swapped .ensures)
     (first-fails _ _ _ (c .before .before .before .before .before .before .before .before .before .before .before .before .before .before .before .before .before .time-none-two-step .ensures) (c .before .before .before .before .before .before .before .before .before .before .before .before .before .before .before .if1 .left)
     (first-fails _ _ _ (c .before .before .before .before .before .before .before .before .before .before .before .before .before .before .time-none-two-step2 .ensures) (c .before .before .before .before .before .before .before .before .before .before .before .before .if2 .left)
@@ -58,7 +58,7 @@ returns-6 c =
 
 returns-7 : tie.Need-returns-7
 unfolding twoStep
-returns-7 c = 
+returns-7 c =
     rw (← c .before .before .before .before .before .before .before .before .before .before .before .before .before .before .before .before .before .before .before .before .before .swapped .ensures)
     (first-fails _ _ _ (c .before .before .before .before .before .before .before .before .before .before .before .before .before .before .before .before .before .before .before .before .time-none-two-step .ensures) (c .before .before .before .before .before .before .before .before .before .before .before .before .before .before .before .before .before .before .if1 .left)
     (first-fails _ _ _ (c .before .before .before .before .before .before .before .before .before .before .before .before .before .before .before .before .before .time-none-two-step2 .ensures) (c .before .before .before .before .before .before .before .before .before .before .before .before .before .before .before .if2 .left)
@@ -70,7 +70,7 @@ returns-7 c =
 
 returns-8 : tie.Need-returns-8
 unfolding twoStep
-returns-8 c = 
+returns-8 c =
     rw (← c .before .before .before .before .before .before .before .before .before .before .before .before .before .before .before .before .before .before .before .before .before .before .swapped .ensures)
     (first-fails _ _ _ (c .before .before .before .before .before .before .before .before .before .before .before .before .before .before .before .before .before .before .before .before .before .time-none-two-step .ensures) (c .before .before .before .before .before .before .before .before .before .before .before .before .before .before .before .before .before .before .before .if1 .left)
     (first-fails _ _ _ (c .before .before .before .before .before .before .before .before .before .before .before .before .before .before .before .before .before .before .time-none-two-step2 .ensures) (c .before .before .before .before .before .before .before .before .before .before .before .before .before .before .before .before .if2 .left)
