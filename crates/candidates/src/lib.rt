@@ -76,7 +76,7 @@ impl Candidates {
 
     // The list with an accepted try.
     pub fn add_profile(
-        self,
+        mut self,
         start: Start,
         target: Target,
         t: [f64; 7],
@@ -101,15 +101,13 @@ impl Candidates {
             jf,
             limits,
         );
-        let mut out = self;
-        out.valid_profiles[at] = made;
+        self.valid_profiles[at] = made;
         if at < 5 {
             let next = at + 1;
-            let beyond = out.valid_profiles[next];
-            out.valid_profiles[next] = beyond.with_boundary_from_profile(made);
-            out.current_index = next;
-            return out;
+            let beyond = self.valid_profiles[next];
+            self.valid_profiles[next] = beyond.with_boundary_from_profile(made);
+            self.current_index = next;
         }
-        out
+        self
     }
 }

@@ -1,6 +1,6 @@
 -- A try and what follows it: s is the state before it, to which a yes adds by `add`. Assumes nothing.
 use mathlib.Core.Path.{_≡_, refl, sym, ap, _∙_}
-use mathlib.Core.Bool.{Bool, true, false}
+use mathlib.Core.Bool.{Bool, true, false, cond, not, _&&_, true≢false}
 use mathlib.Core.List.{List, [], _∷_}
 use Rattle.trees.specs.Tree.{run}
 use Rattle.trees.specs.InTurn.{inTurn}
@@ -13,6 +13,11 @@ pub data After {S : Type 0} (add : S → Try → S) (stop : Bool) (s : S) (g : B
   left-out : g ≡ false → d ≡ s → After add stop s g x d
   no : g ≡ true → {y : Try} → y ≡ x → {ok : Bool} → ok ≡ passes y → ok ≡ false → d ≡ s → After add stop s g x d
   yes : g ≡ true → {y : Try} → y ≡ x → {ok : Bool} → ok ≡ passes y → ok ≡ true → stop ≡ false → d ≡ add s y → After add stop s g x d
+
+-- ok is the answer to a try x that is made only if g, and false where it isn't made. y is the try as the code has it
+pub data Answer (g : Bool) (x y : Try) (ok : Bool) : Type 0 where
+  not-made : g ≡ false → ok ≡ false → Answer g x y ok
+  made : g ≡ true → y ≡ x → ok ≡ passes y → Answer g x y ok
 
 module _ {S : Type 0} (add : S → Try → S) where
   -- the state at the end of the tries
@@ -55,3 +60,33 @@ module _ {S : Type 0} (add : S → Try → S) where
   unfolding onlyIf
   stops-last true s h ex a y e = rw h (stopped s _ [] ex a y e)
   stops-last false s h ex a y e = rw h (accepted s _ [] ex a y e (ended false _))
+
+  -- ---- tries whose answers are kept and added later
+  abbrev with-kept : S → Try → Bool → S
+  with-kept s y ok = cond ok (add s y) s
+
+  module _ (stop : Bool) (s : S) {g : Bool} {x y : Try} where
+    kept-goes-on : (ok : Bool) → Answer g x y ok → (ok && stop) ≡ false → After add stop s g x (with-kept s y ok)
+    kept-goes-on ok (not-made h e) b = left-out h (rw e)
+    kept-goes-on true (made h ex a) b = yes h ex a refl b refl
+    kept-goes-on false (made h ex a) b = no h ex a refl refl
+
+    kept-stops : (xs : List Try) (ok : Bool) → Answer g x y ok → (ok && stop) ≡ true → with-kept s y ok ≡ end stop s (onlyIf g x xs)
+    kept-stops xs true (not-made h e) b = absurd (true≢false e)
+    kept-stops xs true (made h ex a) b = stops xs stop s h ex a refl b refl
+    kept-stops xs false a b = absurd (true≢false (sym b))
+
+    kept-last : (ok : Bool) → Answer g x y ok → with-kept s y ok ≡ end stop s (onlyIf g x [])
+    kept-last ok (not-made h e) = goes-on [] (left-out h (rw e)) (ended stop _)
+    kept-last true (made h ex a) = stops-last stop s h ex a refl refl
+    kept-last false (made h ex a) = goes-on [] (no h ex a refl refl) (ended stop _)
+
+  -- two of them; the second isn't made where the family stops at the first
+  module _ (stop : Bool) (s : S) {g : Bool} {x y : Try} {ok : Bool} (a : Answer g x y ok) (g′ : Bool) {x′ y′ : Try} {ok′ : Bool} where
+    two-by : (b : Bool) → (ok && stop) ≡ b → Answer (not b && g′) x′ y′ ok′ → with-kept (with-kept s y ok) y′ ok′ ≡ end stop s (onlyIf g x (onlyIf g′ x′ []))
+    two-by true e (not-made h n) = rw n (kept-stops stop s _ ok a e)
+    two-by true e (made h _ _) = absurd (true≢false (sym h))
+    two-by false e a′ = goes-on _ (kept-goes-on stop s ok a e) (kept-last stop _ ok′ a′)
+
+    pub two-kept : Answer (not (ok && stop) && g′) x′ y′ ok′ → with-kept (with-kept s y ok) y′ ok′ ≡ end stop s (onlyIf g x (onlyIf g′ x′ []))
+    two-kept = two-by (ok && stop) refl

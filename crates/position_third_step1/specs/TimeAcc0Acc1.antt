@@ -13,6 +13,8 @@ use Rattle.phase_times.specs.TimeAcc0Acc1.{acc0Acc1Radicand, acc0Acc1H1, acc0Ac
 use Rattle.phase_times.specs.declared.constants.Constants.{Constants}
 use Rattle.candidates.specs.Try.{Try}
 use Rattle.candidates.specs.declared.Candidates.{Candidates}
+use Rattle.candidates.specs.List.{added}
+use Rattle.position_third_step1.specs.declared.acc0_acc1.Acc0Acc1Tries.{Acc0Acc1Tries}
 use Rattle.position_third_step1.specs.Plan.{Plan, tries, tryOf, onlyIf}
 
 -- solution 2, then solution 1, each where its guard admits it
@@ -29,3 +31,9 @@ acc0Acc1Tries start target k m =
 
 abbrev pub timeAcc0Acc1 : Candidates → Start → Target → Constants → Limits → (return-after-found : Bool) → Plan
 timeAcc0Acc1 c start target k m return-after-found = tries return-after-found c (acc0Acc1Tries start target k m)
+
+-- the list with the solutions that pass
+unfoldable pub withPassing : Start → Target → Limits → Acc0Acc1Tries → Candidates → Candidates
+withPassing start target m s c =
+    let d = cond (s .«solution_2_passes») (added c (tryOf start target m Acc0Acc1 (s .t2))) c in
+    cond (s .«solution_1_passes») (added d (tryOf start target m Acc0Acc1 (s .t1))) d

@@ -2,7 +2,8 @@
 
 ghost use mathlib.Core.Path.{_≡_};
 ghost use Rattle.position_third_step1.specs.Plan.{found};
-ghost use Rattle.position_third_step1.specs.TimeAcc0Acc1.{timeAcc0Acc1};
+ghost use Rattle.position_third_step1.specs.TimeAcc0Acc1.{withPassing, timeAcc0Acc1};
+ghost use Rattle.candidates.specs.declared.Candidates.{Candidates};
 use candidates::Candidates;
 use candidates::passes;
 use phase_times::constants::Constants;
@@ -20,6 +21,51 @@ use profile::Start;
 use profile::Target;
 use sqrt::sqrt;
 
+// Which solutions pass the check, and their times; the times of one that doesn't mean nothing.
+struct Acc0Acc1Tries {
+    solution_2_passes: bool,
+    solution_1_passes: bool,
+    t2: [f64; 7],
+    t1: [f64; 7],
+}
+
+// Solution 2, then solution 1. The list of candidates is large: it isn't touched before a solution passes.
+fn acc0_acc1_tries(
+    start: Start,
+    target: Target,
+    k: Constants,
+    m: Limits,
+    return_after_found: bool,
+) -> Acc0Acc1Tries
+    ensures { λ r. ⌜ ((c : Candidates) → withPassing start target m r c ≡ found (timeAcc0Acc1 c start target k m «return_after_found»)) ⌝ }
+{
+    let mut solution_2_passes = false;
+    let mut solution_1_passes = false;
+    let mut t2 = [0.0; 7];
+    let mut t1 = [0.0; 7];
+    let radicand = acc0_acc1_radicand(start, target, k, m);
+    if radicand >= 0.0 {
+        let h1 = acc0_acc1_h1(sqrt(radicand));
+        let h2 = acc0_acc1_h2(start, k, m);
+        let h3 = acc0_acc1_h3(target, k, m);
+        if admits_acc0_acc1_solution_2(m, h1, h2, h3) {
+            t2 = times_acc0_acc1_solution_2(start, target, m, h1, h2, h3);
+            solution_2_passes = passes(start, target, t2, ReachedLimits::Acc0Acc1, m.j_max, m);
+        }
+        let goes_on = !(solution_2_passes & return_after_found);
+        if goes_on & admits_acc0_acc1_solution_1(m, h1, h2, h3) {
+            t1 = times_acc0_acc1_solution_1(start, target, m, h1, h2, h3);
+            solution_1_passes = passes(start, target, t1, ReachedLimits::Acc0Acc1, m.j_max, m);
+        }
+    }
+    Acc0Acc1Tries {
+        solution_2_passes,
+        solution_1_passes,
+        t2,
+        t1,
+    }
+}
+
 pub fn time_acc0_acc1(
     c: Candidates,
     start: Start,
@@ -30,28 +76,18 @@ pub fn time_acc0_acc1(
 ) -> Candidates
     ensures { λ r. ⌜ r ≡ found (timeAcc0Acc1 c start target k m «return_after_found») ⌝ }
 {
-    let radicand = acc0_acc1_radicand(start, target, k, m);
-    if radicand >= 0.0 {
-        let h1 = acc0_acc1_h1(sqrt(radicand));
-        let h2 = acc0_acc1_h2(start, k, m);
-        let h3 = acc0_acc1_h3(target, k, m);
-        let mut d = c;
-        if admits_acc0_acc1_solution_2(m, h1, h2, h3) {
-            let t2 = times_acc0_acc1_solution_2(start, target, m, h1, h2, h3);
-            if passes(start, target, t2, ReachedLimits::Acc0Acc1, m.j_max, m) {
-                d = d.add_profile(start, target, t2, ReachedLimits::Acc0Acc1, m.j_max, m);
-                if return_after_found {
-                    return d;
-                }
-            }
-        }
-        if admits_acc0_acc1_solution_1(m, h1, h2, h3) {
-            let t1 = times_acc0_acc1_solution_1(start, target, m, h1, h2, h3);
-            if passes(start, target, t1, ReachedLimits::Acc0Acc1, m.j_max, m) {
-                return d.add_profile(start, target, t1, ReachedLimits::Acc0Acc1, m.j_max, m);
-            }
+    let s = acc0_acc1_tries(start, target, k, m, return_after_found);
+    let t2 = s.t2;
+    let t1 = s.t1;
+    if s.solution_2_passes {
+        let d = c.add_profile(start, target, t2, ReachedLimits::Acc0Acc1, m.j_max, m);
+        if s.solution_1_passes {
+            return d.add_profile(start, target, t1, ReachedLimits::Acc0Acc1, m.j_max, m);
         }
         return d;
+    }
+    if s.solution_1_passes {
+        return c.add_profile(start, target, t1, ReachedLimits::Acc0Acc1, m.j_max, m);
     }
     c
 }

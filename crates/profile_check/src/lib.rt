@@ -12,7 +12,11 @@ use profile::Profile;
 use profile::ReachedLimits;
 use profile::Start;
 use profile::Target;
+use profile_rows::Row;
 use profile_rows::jerks_of;
+use profile_rows::middle_row;
+use profile_rows::outer_row;
+use profile_rows::row_after;
 use profile_rows::rows_of;
 use profile_rows::sums_of;
 use tests::end_passes;
@@ -20,7 +24,7 @@ use tests::phases_pass;
 use tests::rows_pass;
 use tests::sum_passes;
 use tests::times_pass;
-use tests::zeros_pass;
+use tests::zero_passes;
 
 // Whether a profile was accepted, and the profile: filled in, or as it was given.
 pub struct Checked {
@@ -48,9 +52,25 @@ pub fn accepts(
         return false;
     }
     let j = jerks_of(control_signs, t, jf);
-    let rows = rows_of(start, t, j, reached, set_limits, limits);
-    let bounds = limits.bounds();
-    zeros_pass(rows, j, bounds) & end_passes(rows, target) & rows_pass(rows, bounds)
+    let b = limits.bounds();
+    let r0 = Row {
+        a: start.a0,
+        v: start.v0,
+        p: start.p0,
+    };
+    let r1 = outer_row(reached, set_limits, limits.a_max, row_after(r0, t[0], j[0]));
+    let r2 = row_after(r1, t[1], j[1]);
+    let r3 = middle_row(reached, set_limits, limits.a_min, row_after(r2, t[2], j[2]));
+    let r4 = row_after(r3, t[3], j[3]);
+    let r5 = outer_row(reached, set_limits, limits.a_min, row_after(r4, t[4], j[4]));
+    let r6 = row_after(r5, t[5], j[5]);
+    let r7 = row_after(r6, t[6], j[6]);
+    let zeros = zero_passes(r2.a, r3.a, r2.v, j[2], b)
+        & zero_passes(r3.a, r4.a, r3.v, j[3], b)
+        & zero_passes(r4.a, r5.a, r4.v, j[4], b)
+        & zero_passes(r5.a, r6.a, r5.v, j[5], b)
+        & zero_passes(r6.a, r7.a, r6.v, j[6], b);
+    zeros & end_passes(r7, target) & rows_pass(r1, r3, r4, r5, r6, b)
 }
 
 // The boundary of q with the times t and what the check fills in.

@@ -1,13 +1,17 @@
 // The tests of the check. Every comparison stands with the Rust's sides: with a NaN it is false.
 
 ghost use mathlib.Core.Path.{_≡_};
-ghost use Rattle.profile_check.specs.Check.{timesPass, phasesPass, sumPasses, zeroPasses, zerosPass, endPasses, aWithin, vWithin, rowsPass};
+ghost use mathlib.Core.Bool.{_&&_};
+ghost use Rattle.doubles.specs.Operators.{_-ᶠ_, _<ᶠ_};
+ghost use Rattle.doubles.specs.Functions.{absᶠ};
+ghost use Rattle.profile.specs.Tolerances.{pPrecision, vPrecision, aPrecision};
+ghost use Rattle.profile_check.specs.Check.{timesPass, phasesPass, sumPasses, zeroPasses, aWithin, vWithin};
 use profile::Bounds;
 use profile::EPSILON;
 use profile::Profile;
 use profile::ReachedLimits;
 use profile::Target;
-use profile_rows::Rows;
+use profile_rows::Row;
 use profile_rows::sums_of;
 
 pub fn times_pass(t: [f64; 7]) -> bool
@@ -40,32 +44,20 @@ pub fn sum_passes(longest: f64, t: [f64; 7]) -> bool
 }
 
 // In a phase from acceleration a to a_next: the speed at zero acceleration, if it is met, is within the bounds.
-fn zero_passes(a: f64, a_next: f64, v: f64, j: f64, b: Bounds) -> bool
+pub fn zero_passes(a: f64, a_next: f64, v: f64, j: f64, b: Bounds) -> bool
     ensures { λ r. ⌜ r ≡ zeroPasses a «a_next» v j b ⌝ }
 {
     let v_a_zero = v - a * a / (2.0 * j);
     !((a_next * a < -EPSILON) & ((v_a_zero > b.v_upp_lim) | (v_a_zero < b.v_low_lim)))
 }
 
-pub fn zeros_pass(r: Rows, j: [f64; 7], b: Bounds) -> bool
-    ensures { λ x. ⌜ x ≡ zerosPass r j b ⌝ }
-{
-    let a = r.a;
-    let v = r.v;
-    zero_passes(a[2], a[3], v[2], j[2], b)
-        & zero_passes(a[3], a[4], v[3], j[3], b)
-        & zero_passes(a[4], a[5], v[4], j[4], b)
-        & zero_passes(a[5], a[6], v[5], j[5], b)
-        & zero_passes(a[6], a[7], v[6], j[6], b)
-}
-
 // The last row is at the target.
-pub fn end_passes(r: Rows, target: Target) -> bool
-    ensures { λ x. ⌜ x ≡ endPasses r target ⌝ }
+pub fn end_passes(r: Row, target: Target) -> bool
+    ensures { λ x. ⌜ x ≡ ((absᶠ (r .p -ᶠ target .pf) <ᶠ pPrecision) && (absᶠ (r .v -ᶠ target .vf) <ᶠ vPrecision) && (absᶠ (r .a -ᶠ target .af) <ᶠ aPrecision)) ⌝ }
 {
-    (doubles::abs(r.p[7] - target.pf) < Profile::P_PRECISION)
-        & (doubles::abs(r.v[7] - target.vf) < Profile::V_PRECISION)
-        & (doubles::abs(r.a[7] - target.af) < Profile::A_PRECISION)
+    (doubles::abs(r.p - target.pf) < Profile::P_PRECISION)
+        & (doubles::abs(r.v - target.vf) < Profile::V_PRECISION)
+        & (doubles::abs(r.a - target.af) < Profile::A_PRECISION)
 }
 
 fn a_within(b: Bounds, a: f64) -> bool
@@ -81,9 +73,9 @@ fn v_within(b: Bounds, v: f64) -> bool
 }
 
 // The accelerations of rows 1, 3 and 5 and the velocities of rows 3 to 6 are within the bounds.
-pub fn rows_pass(r: Rows, b: Bounds) -> bool
-    ensures { λ x. ⌜ x ≡ rowsPass r b ⌝ }
+pub fn rows_pass(r1: Row, r3: Row, r4: Row, r5: Row, r6: Row, b: Bounds) -> bool
+    ensures { λ x. ⌜ x ≡ ((aWithin b (r1 .a) && aWithin b (r3 .a) && aWithin b (r5 .a)) && (vWithin b (r3 .v) && vWithin b (r4 .v) && vWithin b (r5 .v) && vWithin b (r6 .v))) ⌝ }
 {
-    (a_within(b, r.a[1]) & a_within(b, r.a[3]) & a_within(b, r.a[5]))
-        & (v_within(b, r.v[3]) & v_within(b, r.v[4]) & v_within(b, r.v[5]) & v_within(b, r.v[6]))
+    (a_within(b, r1.a) & a_within(b, r3.a) & a_within(b, r5.a))
+        & (v_within(b, r3.v) & v_within(b, r4.v) & v_within(b, r5.v) & v_within(b, r6.v))
 }

@@ -53,7 +53,7 @@ pub fn jerks_of(control_signs: ControlSigns, t: [f64; 7], jf: f64) -> [f64; 7]
 }
 
 // The row after a phase of t seconds at the jerk j.
-fn row_after(r: Row, t: f64, j: f64) -> Row
+pub fn row_after(r: Row, t: f64, j: f64) -> Row
     ensures { λ x. ⌜ x ≡ rowAfter r t j ⌝ }
 {
     Row {
@@ -71,14 +71,14 @@ fn stored_if(b: bool, a: f64, r: Row) -> Row
 }
 
 // Row 1 or 5, as the check keeps it.
-fn outer_row(reached: ReachedLimits, set_limits: bool, limit: f64, r: Row) -> Row
+pub fn outer_row(reached: ReachedLimits, set_limits: bool, limit: f64, r: Row) -> Row
     ensures { λ x. ⌜ x ≡ outerRow reached «set_limits» limit r ⌝ }
 {
     stored_if(set_limits & reached.is_acc0_acc1(), limit, r)
 }
 
 // Row 3, as the check keeps it.
-fn middle_row(reached: ReachedLimits, set_limits: bool, a_min: f64, r: Row) -> Row
+pub fn middle_row(reached: ReachedLimits, set_limits: bool, a_min: f64, r: Row) -> Row
     ensures { λ x. ⌜ x ≡ middleRow reached «set_limits» «a_min» r ⌝ }
 {
     let cleared = stored_if(reached.ends_in_vel() | reached.is_acc0_acc1(), 0.0, r);

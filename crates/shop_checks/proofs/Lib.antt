@@ -1,0 +1,6 @@
+-- The proofs of `shop_checks`.
+pub mod ShopChecks
+pub mod MovingAnswers
+pub mod Passing
+pub mod Turning
+pub mod WorkedMoves

@@ -1,0 +1,66 @@
+-- The table of shop checks holds: one statement, by computation. Assumes nothing.
+use mathlib.Core.Path.{refl}
+use lib.Ieee.{ofBits, toBits, add, sub, mul, div, neg, lt, le, eq}
+use Rattle.doubles.specs.Functions.{absᶠ}
+use Rattle.profile.specs.Boundary.{withBoundary, emptyProfile}
+use Rattle.profile.specs.Limits.{swappedLimits, directionOf, boundsOf}
+use Rattle.profile_rows.specs.Rows.{sums, jerkIf, jerks, rowAfter, storedIf, outerRow, middleRow, rowsOf}
+use Rattle.profile_check.specs.Check.{timesPass, phasesPass, sumPasses, zeroPasses, zerosPass, endPasses, rowsPass, accepted, filled, checked}
+use Rattle.elementary.specs.Functions.{sqrtOf, cbrtOf, cosineOf, sineOf}
+use Rattle.roots.specs.List.{inserted, placed, sortedFrom, ascendingOf}
+use Rattle.roots.specs.Quartic.{withQuadratic, quarticOf}
+use Rattle.trees.specs.InTurn.{answered, inTurn}
+use Rattle.trees.specs.Tree.{run, bind}
+use Rattle.candidates.specs.List.{stored, added, freshList}
+use Rattle.candidates.specs.Try.{passes, profileOf}
+use Rattle.phase_times.specs.Constants.{constantsOf}
+use Rattle.phase_times.specs.GetProfileTests.{hasZeroLimit, endsAtRest, pointsUp, restsAtTarget}
+use Rattle.phase_times.specs.TimeAllSingleStep.{changesAcceleration, startsAccelerated, startsMoving, startsAtTarget, timesAtConstantSpeed}
+use Rattle.phase_times.specs.TimeAllVel.{t3Acc0Acc1Vel, timesAcc0Acc1Vel}
+use Rattle.phase_times_quartic.specs.CorrectionAcc1.{correctedAcc1}
+use Rattle.phase_times_quartic.specs.Quartic.{shiftedQuartic, hasSolution}
+use Rattle.phase_times_quartic.specs.RootRange.{isSkipped}
+use Rattle.phase_times_quartic.specs.TimeAcc0.{h0Acc0, h3Acc0, h2Acc0, rangeAcc0, polynomAcc0, newtonAcc0, correctedAcc0, timesAcc0}
+use Rattle.phase_times_quartic.specs.TimeAcc1.{h0Acc1, h3Acc1, h2Acc1, polynomAcc1, rangeAcc1, timesAcc1}
+use Rattle.phase_times_quartic.specs.TimeNone.{h2None, polynomNone, newtonNone, correctedNone, rangeNone, timesNone}
+use Rattle.phase_times_two_step.specs.ScaledRoot.{scaledRoot}
+use Rattle.phase_times_two_step.specs.TimeNoneTwoStep.{noneTwoStepRadicand, timesNoneTwoStep, timesNoneSingleStep}
+use Rattle.position_third_step1.specs.Plan.{onlyIf}
+use Rattle.position_third_step1.specs.TimeAllNoneAcc0Acc1.{rootsIf, noneRoots, acc0Roots, acc1Roots, reachedBy, timesBy, triesFor, noneAcc0Acc1Tries}
+use Rattle.position_third_step1.specs.TimeAllSingleStep.{singleStepTries, acceptance}
+use Rattle.position_third_step1.specs.TimeAllVel.{allVelTries}
+use Rattle.position_third_step1.specs.TwoStep.{noneTwoStepTries}
+use Rattle.block.specs.Blocks.{total, duration, noInterval, intervalFrom, intervalBetween, blockOf, emptyBlock, planned, refused, isBlocked, blockingOf}
+use Rattle.block.specs.Selection.{near, ofTwo, selected}
+use Rattle.get_profile.specs.Families.{unlessFound, firstOf}
+use Rattle.get_profile.specs.GetProfile.{towardsTarget, restingOneWay, restingBothWays, twoStep, firstSearch, tryFamilies, afterPassing, singleStepAnswer, getProfileBy, getProfile, getProfileAnswer}
+use Rattle.planner.specs.Plan.{finiteStart, finiteTarget, finiteLimits, finiteMove, wrongSign, wrongDuration, planOf}
+use Rattle.shop_checks.specs.Lines.{lineOf}
+use Rattle.shop_checks.specs.ShopChecks.{ShopChecks}
+
+pub shop-checks : ShopChecks
+unfolding lineOf planOf finiteMove finiteStart finiteTarget finiteLimits wrongSign wrongDuration withBoundary emptyProfile getProfileAnswer getProfile getProfileBy hasZeroLimit tryFamilies firstSearch endsAtRest restsAtTarget pointsUp towardsTarget restingBothWays restingOneWay twoStep firstOf unlessFound run bind inTurn answered onlyIf added stored freshList profileOf filled swappedLimits constantsOf noneAcc0Acc1Tries noneRoots rootsIf h2None polynomNone rangeNone triesFor reachedBy timesBy isSkipped timesNone correctedNone newtonNone acc0Roots h0Acc0 h2Acc0 h3Acc0 polynomAcc0 rangeAcc0 shiftedQuartic hasSolution timesAcc0 correctedAcc0 newtonAcc0 acc1Roots h0Acc1 h2Acc1 h3Acc1 polynomAcc1 rangeAcc1 timesAcc1 correctedAcc1 noneTwoStepTries noneTwoStepRadicand scaledRoot timesNoneTwoStep timesNoneSingleStep allVelTries t3Acc0Acc1Vel timesAcc0Acc1Vel singleStepTries changesAcceleration startsAccelerated startsMoving startsAtTarget timesAtConstantSpeed acceptance singleStepAnswer afterPassing selected ofTwo near total duration planned refused blockOf emptyBlock noInterval intervalFrom intervalBetween blockingOf isBlocked checked passes accepted timesPass phasesPass sumPasses zeroPasses zerosPass endPasses rowsPass sums jerkIf jerks rowAfter storedIf outerRow middleRow rowsOf boundsOf directionOf quarticOf withQuadratic inserted ascendingOf sortedFrom placed sqrtOf cbrtOf cosineOf sineOf ofBits add sub mul div neg lt le eq absᶠ toBits
+shop-checks =
+    record {
+      line-1 = refl;
+      line-2 = refl;
+      line-3 = refl;
+      line-4 = refl;
+      line-2-down = refl;
+      move-3-at-2½ = refl;
+      move-3-at-3 = refl;
+      move-3-at-4 = refl;
+      sqrt-9 = refl;
+      sqrt-minus-1 = refl;
+      cbrt-minus-27 = refl;
+      c-at-1 = refl;
+      s-at-1 = refl;
+      c-at-minus-1 = refl;
+      s-at-minus-1 = refl;
+      quartic-double-root = refl;
+      quartic-cube-root = refl;
+      longest-rest = refl;
+      longer-rest = refl;
+      near-pair = refl;
+      far-pair = refl;
+    }
