@@ -1,0 +1,4 @@
+-- The laws of `plan_buffer`.
+pub mod StoreLaws
+pub mod LayoutLaws
+pub mod AnswerLaws
