@@ -87,26 +87,25 @@ impl Candidates {
         ensures { λ r. ⌜ r ≡ added self (record { start = start; target = target; t = t; reached = reached; jf = jf; limits = limits }) ⌝ }
     {
         let at = self.current_index;
-        if at > 5 {
-            return self;
-        }
-        let slot = self.valid_profiles[at];
-        let made = profile_of(
-            slot.brake,
-            slot.accel,
-            start,
-            target,
-            t,
-            reached,
-            jf,
-            limits,
-        );
-        self.valid_profiles[at] = made;
-        if at < 5 {
-            let next = at + 1;
-            let beyond = self.valid_profiles[next];
-            self.valid_profiles[next] = beyond.with_boundary_from_profile(made);
-            self.current_index = next;
+        if at < 6 {
+            let slot = self.valid_profiles[at];
+            let made = profile_of(
+                slot.brake,
+                slot.accel,
+                start,
+                target,
+                t,
+                reached,
+                jf,
+                limits,
+            );
+            self.valid_profiles[at] = made;
+            if at < 5 {
+                let next = at + 1;
+                let beyond = self.valid_profiles[next];
+                self.valid_profiles[next] = beyond.with_boundary_from_profile(made);
+                self.current_index = next;
+            }
         }
         self
     }

@@ -37,7 +37,7 @@ use Rattle.block.specs.Plans.{Each}
 use Rattle.block.specs.declared.Answer.{Answer}
 use Rattle.block.proofs.MemberLaws.{alone-each, from-each, selected-each, selected-duration, refused-empty}
 use Rattle.block.proofs.RefusalLaws.{selected-refusal}
-use Rattle.get_profile.specs.GetProfile.{TryBetween, restingOneWay, restingBothWays, moving, twoStep, towardsTarget, firstSearch, tryFamilies, afterPassing, singleStepAnswer, selectedFrom, getProfileAnswer}
+use Rattle.get_profile.specs.GetProfile.{TryBetween, resting, moving, twoStep, towardsTarget, firstSearch, tryFamilies, afterPassing, singleStepAnswer, selectedFrom, getProfileAnswer}
 use Rattle.get_profile.proofs.FamiliesLaws.{Keeps, none, also, first-keeps, each-keeps}
 use Rattle.get_profile.proofs.SearchLaws.{single-step-is, searched-is}
 
@@ -50,13 +50,17 @@ module _ (start : Start) (target : Target) (k : Constants) (brake accel : Float)
   kept : (stop : Bool) {jf : Float} {m : Limits} {n : ℕ} {xs : List Try} → Bounded (TryWith start target jf m) n xs → Keeps SoundList (λ c. tries stop c xs)
   kept stop b c p = found-sound stop c (λ x w. record { start-is = w .start-is; target-is = w .target-is }) b p
 
-  one-way-kept : (m : Limits) → Keeps SoundList (restingOneWay start target k m)
-  unfolding restingOneWay
-  one-way-kept m = first-keeps SoundList (also (kept true (all-vel-bounded start target k m)) (also (kept true (none-acc0-acc1-bounded start target k m)) (also (kept true (acc0-acc1-bounded start target k m)) none)))
-
-  both-ways-kept : (m : Limits) → Keeps SoundList (restingBothWays start target k m)
-  unfolding restingBothWays
-  both-ways-kept m = first-keeps SoundList (also (one-way-kept m) (also (one-way-kept (swappedLimits m)) none))
+  resting-kept : (m : Limits) → Keeps SoundList (resting start target k m)
+  unfolding resting
+  resting-kept m =
+      let s = swappedLimits m in
+      first-keeps SoundList
+      (also (kept true (all-vel-bounded start target k m))
+      (also (kept true (none-acc0-acc1-bounded start target k m))
+      (also (kept true (acc0-acc1-bounded start target k m))
+      (also (kept true (all-vel-bounded start target k s))
+      (also (kept true (none-acc0-acc1-bounded start target k s))
+      (also (kept true (acc0-acc1-bounded start target k s)) none))))))
 
   moving-kept : (m : Limits) → Keeps SoundList (moving start target k m)
   unfolding moving
@@ -87,7 +91,7 @@ module _ (start : Start) (target : Target) (k : Constants) (brake accel : Float)
   search-kept : (at-rest at-target : Bool) (m : Limits) → Keeps SoundList (firstSearch start target k at-rest at-target m)
   unfolding firstSearch
   search-kept true true m = kept true (none-acc0-acc1-bounded start target k (towardsTarget k m))
-  search-kept true false m = both-ways-kept (towardsTarget k m)
+  search-kept true false m = resting-kept (towardsTarget k m)
   search-kept false at-target m = moving-kept m
 
   families-kept : (m : Limits) → Keeps SoundList (tryFamilies start target k m)

@@ -17,20 +17,20 @@ use Rattle.candidates.specs.Try.{Try}
 use Rattle.candidates.specs.List.{freshList}
 use Rattle.block.specs.declared.Answer.{Answer}
 use Rattle.position_third_step1.proofs.FamilyLaws.{checks-at-most, all-vel-bounded, acc0-acc1-bounded, none-acc0-acc1-bounded, acc1-vel-two-step-bounded, acc0-two-step-bounded, vel-two-step-bounded, none-two-step-bounded, single-step-at-most}
-use Rattle.get_profile.specs.GetProfile.{restingOneWay, restingBothWays, moving, twoStep, towardsTarget, firstSearch, tryFamilies, getProfileBy, getProfile}
+use Rattle.get_profile.specs.GetProfile.{resting, moving, twoStep, towardsTarget, firstSearch, tryFamilies, getProfileBy, getProfile}
 use Rattle.get_profile.proofs.FamiliesLaws.{AtMostFrom, first-at-most, each-at-most, no-first, no-each}
 
 module _ (start : Start) (target : Target) (k : Constants) where
-  resting-at-most : (m : Limits) → AtMostFrom 18 (restingOneWay start target k m)
-  unfolding restingOneWay
+  resting-at-most : (m : Limits) → AtMostFrom 36 (resting start target k m)
+  unfolding resting
   resting-at-most m =
-      first-at-most 14 _ (λ c. checks-at-most true c (all-vel-bounded start target k m))
-      (first-at-most 2 _ (λ c. checks-at-most true c (none-acc0-acc1-bounded start target k m))
-      (first-at-most 0 _ (λ c. checks-at-most true c (acc0-acc1-bounded start target k m)) no-first))
-
-  both-ways-at-most : (m : Limits) → AtMostFrom 36 (restingBothWays start target k m)
-  unfolding restingBothWays
-  both-ways-at-most m = first-at-most 18 _ (resting-at-most m) (first-at-most 0 _ (resting-at-most (swappedLimits m)) no-first)
+      let s = swappedLimits m in
+      first-at-most 32 _ (λ c. checks-at-most true c (all-vel-bounded start target k m))
+      (first-at-most 20 _ (λ c. checks-at-most true c (none-acc0-acc1-bounded start target k m))
+      (first-at-most 18 _ (λ c. checks-at-most true c (acc0-acc1-bounded start target k m))
+      (first-at-most 14 _ (λ c. checks-at-most true c (all-vel-bounded start target k s))
+      (first-at-most 2 _ (λ c. checks-at-most true c (none-acc0-acc1-bounded start target k s))
+      (first-at-most 0 _ (λ c. checks-at-most true c (acc0-acc1-bounded start target k s)) no-first)))))
 
   moving-at-most : (m : Limits) → AtMostFrom 36 (moving start target k m)
   unfolding moving
@@ -63,7 +63,7 @@ module _ (start : Start) (target : Target) (k : Constants) where
   search-at-most : (at-rest at-target : Bool) (m : Limits) → AtMostFrom 36 (firstSearch start target k at-rest at-target m)
   unfolding firstSearch
   search-at-most true true m c = at-most-more 24 (itself-at-most m c)
-  search-at-most true false m c = both-ways-at-most (towardsTarget k m) c
+  search-at-most true false m c = resting-at-most (towardsTarget k m) c
   search-at-most false at-target m c = moving-at-most m c
 
   families-at-most : (m : Limits) → AtMostFrom 54 (tryFamilies start target k m)

@@ -20,7 +20,7 @@ use Rattle.position_third_step1.specs.TimeAllNoneAcc0Acc1.{timeAllNoneAcc0Acc1}
 use Rattle.position_third_step1.specs.TimeAllSingleStep.{timeAllSingleStep}
 use Rattle.block.specs.Selection.{selected}
 use Rattle.block.specs.declared.Answer.{Answer}
-use Rattle.get_profile.specs.GetProfile.{restingBothWays, moving, towardsTarget, firstSearch, tryFamilies, singleStepAnswer, selectedFrom, getProfileBy, getProfile, getProfileAnswer}
+use Rattle.get_profile.specs.GetProfile.{resting, moving, towardsTarget, firstSearch, tryFamilies, singleStepAnswer, selectedFrom, getProfileBy, getProfile, getProfileAnswer}
 
 not-true : (b : Bool) → not b ≡ true → b ≡ false
 not-true false h = refl
@@ -49,9 +49,9 @@ module _ (start : Start) (target : Target) (k : Constants) (m : Limits) (c : Can
     unfolding firstSearch
     to-itself g e = e ∙ ap (λ (m : Limits). found (timeAllNoneAcc0Acc1 c start target k m true)) em ∙ sym (first-is g)
 
-    pub to-rest : at-target ≡ false → {r : Candidates} → r ≡ found (restingBothWays start target k towards c) → r ≡ first
+    pub to-rest : at-target ≡ false → {r : Candidates} → r ≡ found (resting start target k towards c) → r ≡ first
     unfolding firstSearch
-    to-rest g e = e ∙ ap (λ (m : Limits). found (restingBothWays start target k m c)) em ∙ sym (first-is g)
+    to-rest g e = e ∙ ap (λ (m : Limits). found (resting start target k m c)) em ∙ sym (first-is g)
 
 -- zero is the answer to the test of the limits
 module _ (input : Profile) (m : Limits) where

@@ -33,18 +33,17 @@ unfoldable pub towardsTarget : Constants → Limits → Limits
 towardsTarget k m = cond (pointsUp k) m (swappedLimits m)
 
 module _ (start : Start) (target : Target) (k : Constants) where
-  -- a resting target, in one direction
-  unfoldable pub restingOneWay : Limits → Family
-  restingOneWay m =
+  -- a resting target: up to the first success, in the direction of m and then in the other
+  unfoldable pub resting : Limits → Family
+  resting m =
       firstOf
       ((λ c. timeAllVel c start target k m)
       ∷ (λ c. timeAllNoneAcc0Acc1 c start target k m true)
       ∷ (λ c. timeAcc0Acc1 c start target k m true)
+      ∷ (λ c. timeAllVel c start target k (swappedLimits m))
+      ∷ (λ c. timeAllNoneAcc0Acc1 c start target k (swappedLimits m) true)
+      ∷ (λ c. timeAcc0Acc1 c start target k (swappedLimits m) true)
       ∷ [])
-
-  -- and then in the other
-  unfoldable pub restingBothWays : Limits → Family
-  restingBothWays m = firstOf (restingOneWay m ∷ restingOneWay (swappedLimits m) ∷ [])
 
   -- any other target: all families, both directions
   unfoldable pub moving : Limits → Family
@@ -75,7 +74,7 @@ module _ (start : Start) (target : Target) (k : Constants) where
   -- what is tried first: for a resting target in the direction of pf - p0 first; a rest that is its own target tries one family, once
   unfoldable pub firstSearch : (ends-at-rest rests-at-target : Bool) → Limits → Family
   firstSearch true true m c = timeAllNoneAcc0Acc1 c start target k (towardsTarget k m) true
-  firstSearch true false m c = restingBothWays (towardsTarget k m) c
+  firstSearch true false m c = resting (towardsTarget k m) c
   firstSearch false rests-at-target m c = moving m c
 
   unfoldable pub tryFamilies : Limits → Family

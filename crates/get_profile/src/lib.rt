@@ -4,7 +4,7 @@ ghost use mathlib.Core.Path.{_≡_};
 ghost use Rattle.trees.specs.Tree.{run};
 ghost use Rattle.position_third_step1.specs.Plan.{found};
 ghost use Rattle.phase_times.specs.GetProfileTests.{endsAtRest, restsAtTarget};
-ghost use Rattle.get_profile.specs.GetProfile.{restingOneWay, restingBothWays, moving, twoStep, towardsTarget, firstSearch, tryFamilies, afterPassing, singleStepAnswer, selectedFrom, getProfileAnswer};
+ghost use Rattle.get_profile.specs.GetProfile.{resting, moving, twoStep, towardsTarget, firstSearch, tryFamilies, afterPassing, singleStepAnswer, selectedFrom, getProfileAnswer};
 use block::Answer;
 use block::Block;
 use block::Interval;
@@ -30,16 +30,11 @@ use profile::Start;
 use profile::Target;
 use profile_check::Checked;
 
-// A resting target, in one direction.
-fn resting_one_way(
-    c: Candidates,
-    start: Start,
-    target: Target,
-    k: Constants,
-    m: Limits,
-) -> Candidates
-    ensures { λ r. ⌜ r ≡ found (restingOneWay start target k m c) ⌝ }
+// A resting target: m are the limits for the direction that is tried first.
+fn resting(c: Candidates, start: Start, target: Target, k: Constants, m: Limits) -> Candidates
+    ensures { λ r. ⌜ r ≡ found (resting start target k m c) ⌝ }
 {
+    let s = m.swapped();
     let mut d = time_all_vel(c, start, target, k, m);
     if d.current_index > 0 {
         return d;
@@ -49,23 +44,18 @@ fn resting_one_way(
         return d;
     }
     d = time_acc0_acc1(d, start, target, k, m, true);
-    d
-}
-
-fn resting_both_ways(
-    c: Candidates,
-    start: Start,
-    target: Target,
-    k: Constants,
-    m: Limits,
-) -> Candidates
-    ensures { λ r. ⌜ r ≡ found (restingBothWays start target k m c) ⌝ }
-{
-    let mut d = resting_one_way(c, start, target, k, m);
     if d.current_index > 0 {
         return d;
     }
-    d = resting_one_way(d, start, target, k, m.swapped());
+    d = time_all_vel(d, start, target, k, s);
+    if d.current_index > 0 {
+        return d;
+    }
+    d = time_all_none_acc0_acc1(d, start, target, k, s, true);
+    if d.current_index > 0 {
+        return d;
+    }
+    d = time_acc0_acc1(d, start, target, k, s, true);
     d
 }
 
@@ -140,7 +130,7 @@ fn first_search(c: Candidates, start: Start, target: Target, k: Constants, m: Li
     if rests_at_target(start, k) {
         return time_all_none_acc0_acc1(c, start, target, k, towards, true);
     }
-    resting_both_ways(c, start, target, k, towards)
+    resting(c, start, target, k, towards)
 }
 
 fn try_families(c: Candidates, start: Start, target: Target, k: Constants, m: Limits) -> Candidates

@@ -11,7 +11,7 @@ returns-2 : tie.Need-returns-2
 returns-2 c = to-itself _ _ _ _ _ (c .before .before .before .before .before .ends-at-rest .ensures) (c .before .before .before .before .if1 .left) (c .before .before .rests-at-target .ensures) (c .before .before .before .towards-target .ensures) (c .before .if2 .taken) (c .time-all-none-acc0-acc1 .ensures)
 
 returns-3 : tie.Need-returns-3
-returns-3 c = to-rest _ _ _ _ _ (c .before .before .before .before .before .ends-at-rest .ensures) (c .before .before .before .before .if1 .left) (c .before .before .rests-at-target .ensures) (c .before .before .before .towards-target .ensures) (c .before .if2 .left) (c .resting-both-ways .ensures)
+returns-3 c = to-rest _ _ _ _ _ (c .before .before .before .before .before .ends-at-rest .ensures) (c .before .before .before .before .if1 .left) (c .before .before .rests-at-target .ensures) (c .before .before .before .towards-target .ensures) (c .before .if2 .left) (c .resting .ensures)
 
 pub first-search-spec : {M : Type 1} → statement M
 first-search-spec =
