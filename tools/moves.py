@@ -1,7 +1,7 @@
 #!/usr/bin/env python3
 """Moves for people: text to records, plans to tables and pictures.
 
-  python3 tools/moves.py records moves.txt | plan_full > plans.txt
+  python3 tools/moves.py records moves.txt | target/bin/plan_full > plans.txt
   python3 tools/moves.py table plans.txt
   python3 tools/moves.py picture plans.txt --record 2 --moves moves.txt -o move2.svg
 

@@ -1,0 +1,21 @@
+-- `moves::fields::put_count` meets its contract. Assumes nothing.
+use Rattle.moves.proofs.DecimalLaws.{count-field}
+use borrow.Author.Needs.{needs}
+use Rattle.moves.proofs.fields.put_count.Statement.{statement}
+use Rattle.moves.proofs.fields.put_count.Tie as tie
+
+returns : tie.Need-returns
+returns c = rw (c .before .before .before .before .before .count-of .ensures .0, c .before .before .before .before .count-of2 .ensures .0, count-field) at (c .before .before .put .ensures)
+
+pub put-count-spec : {M : Type 1} → statement M
+put-count-spec =
+    tie.close
+    (tie.spec
+    (λ c κs. search needs)
+    (λ c κs. search needs)
+    (λ c. search needs)
+    (λ c. search needs)
+    (λ c. search needs)
+    (λ c κs. search needs)
+    (λ c. search needs)
+    returns)

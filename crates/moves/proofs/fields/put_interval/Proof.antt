@@ -1,0 +1,20 @@
+-- `moves::fields::put_interval` meets its contract. Assumes nothing.
+use Rattle.moves.specs.Lines.{intervalFields}
+use Rattle.profile_lines.proofs.PutLaws.{then}
+use borrow.Author.Needs.{needs}
+use Rattle.moves.proofs.fields.put_interval.Statement.{statement}
+use Rattle.moves.proofs.fields.put_interval.Tie as tie
+
+returns : tie.Need-returns
+unfolding intervalFields
+returns c = then (then (c .before .before .before .before .before .before .before .before .before .before .put-kind .ensures) (c .before .before .before .before .before .before .put-two-ends .ensures)) (c .before .before .put-profile-fields .ensures)
+
+pub put-interval-spec : {M : Type 1} → statement M
+put-interval-spec =
+    tie.close
+    (tie.spec
+    (λ c κs. search needs)
+    (λ c κs. search needs)
+    (λ c κs. search needs)
+    (λ c. search needs)
+    returns)

@@ -1,0 +1,20 @@
+-- `moves::fields::put_refusal` meets its contract. Assumes nothing.
+use Rattle.moves.specs.Lines.{refusalFields}
+use Rattle.profile_lines.proofs.PutLaws.{then}
+use borrow.Author.Needs.{needs}
+use Rattle.moves.proofs.fields.put_refusal.Statement.{statement}
+use Rattle.moves.proofs.fields.put_refusal.Tie as tie
+
+returns : tie.Need-returns
+unfolding refusalFields
+returns c = then (c .before .before .before .before .before .before .put .ensures) (c .before .before .put-number .ensures)
+
+pub put-refusal-spec : {M : Type 1} → statement M
+put-refusal-spec =
+    tie.close
+    (tie.spec
+    (λ c. search needs)
+    (λ c κs. search needs)
+    (λ c κs. search needs)
+    (λ c. search needs)
+    returns)

@@ -1,0 +1,20 @@
+-- `moves::lines::line` meets its contract. Assumes nothing.
+use Rattle.moves.specs.Lines.{lineOf}
+use Rattle.profile_lines.proofs.PutLaws.{then}
+use borrow.Author.Needs.{needs}
+use Rattle.moves.proofs.lines.line.Statement.{statement}
+use Rattle.moves.proofs.lines.line.Tie as tie
+
+returns : tie.Need-returns
+unfolding lineOf
+returns c = then (then (c .before .before .before .before .before .put-decimal .ensures) (c .before .before .before .put-answer .ensures)) (c .put .ensures)
+
+pub line-spec : {M : Type 1} → statement M
+line-spec =
+    tie.close
+    (tie.spec
+    (λ c κs. search needs)
+    (λ c κs. search needs)
+    (λ c. search needs)
+    (λ c κs. search needs)
+    returns)

@@ -1,0 +1,81 @@
+-- The lines of text for an answer: fields one space apart, a line feed at the end. Definitions only.
+use Prim.Native.Nat.{ℕ, _+_}
+use mathlib.Core.Bool.{cond}
+use mathlib.Core.List.{List, [], _∷_, _++_}
+use lib.Dec.{eqb}
+use lib.Ieee.{Float, binary64, ofBits}
+use Rattle.doubles.specs.Constants.{0ᶠ}
+use Rattle.profile_lines.specs.Text.{ascii}
+use Rattle.profile_lines.specs.Fields.{directionName, limitsName, field, hex, doubleFields, profileFields}
+use Rattle.block.specs.declared.Stretch.{Stretch}
+use Rattle.block.specs.declared.Stretch.the-variants.{Nothing, Between, From}
+use Rattle.block.specs.declared.Interval.{Interval}
+use Rattle.block.specs.declared.Block.{Block}
+use Rattle.block.specs.declared.Answer.{Answer}
+use Rattle.moves.specs.Numbers.{decimal}
+
+abbrev pub ∞ᶠ : Float
+∞ᶠ = ofBits binary64 0x7ff0_0000_0000_0000
+
+-- ---- document 01's values for each case of a stretch
+
+-- its ends, the left one first
+abbrev pub endsOf : Stretch → List Float
+endsOf Nothing = []
+endsOf (Between left right) = left ∷ right ∷ []
+endsOf (From left) = left ∷ ∞ᶠ ∷ []
+
+-- how many stretches it is
+abbrev pub countOf : Stretch → ℕ
+countOf Nothing = 0
+countOf (Between left right) = 1
+countOf (From left) = 1
+
+-- ---- a line of `plan_moves`
+
+-- the count of stretches and their ends
+unfoldable pub stretchFields : Stretch → Stretch → List ℕ
+stretchFields a b = field (decimal (countOf a + countOf b)) ++ doubleFields (endsOf a) ++ doubleFields (endsOf b)
+
+-- ok, shortest duration, direction, limits, and the stretches
+unfoldable pub planFields : Block → List ℕ
+planFields x =
+    field (ascii "ok")
+    ++ field (hex (x .«t_min»))
+    ++ field (directionName (x .«p_min» .direction))
+    ++ field (limitsName (x .«p_min» .limits))
+    ++ stretchFields (x .a .stretch) (x .b .stretch)
+
+unfoldable pub refusalFields : ℕ → List ℕ
+refusalFields k = field (ascii "refused") ++ field (decimal k)
+
+unfoldable pub answerFields : Answer → List ℕ
+answerFields x = cond (eqb (x .refusal) 0) (planFields (x .block)) (refusalFields (x .refusal))
+
+-- the line of record number n
+unfoldable pub lineOf : ℕ → Answer → List ℕ
+lineOf n x = decimal n ++ answerFields x ++ ascii "\n"
+
+-- ---- a line of `plan_full`: ok, shortest duration, PROFILE, and for each of the two stretches its kind, left end, right end, PROFILE
+abbrev pub kindOf : Stretch → List ℕ
+kindOf Nothing = ascii "nothing"
+kindOf (Between left right) = ascii "between"
+kindOf (From left) = ascii "from"
+
+-- the ends of nothing are zeros
+abbrev pub twoEndsOf : Stretch → List Float
+twoEndsOf Nothing = 0ᶠ ∷ 0ᶠ ∷ []
+twoEndsOf (Between left right) = endsOf (Between left right)
+twoEndsOf (From left) = endsOf (From left)
+
+unfoldable pub intervalFields : Interval → List ℕ
+intervalFields i = field (kindOf (i .stretch)) ++ doubleFields (twoEndsOf (i .stretch)) ++ profileFields (i .profile)
+
+unfoldable pub fullFields : Block → List ℕ
+fullFields x = field (ascii "ok") ++ field (hex (x .«t_min»)) ++ profileFields (x .«p_min») ++ intervalFields (x .a) ++ intervalFields (x .b)
+
+unfoldable pub fullAnswerFields : Answer → List ℕ
+fullAnswerFields x = cond (eqb (x .refusal) 0) (fullFields (x .block)) (refusalFields (x .refusal))
+
+unfoldable pub fullLineOf : ℕ → Answer → List ℕ
+fullLineOf n x = decimal n ++ fullAnswerFields x ++ ascii "\n"

@@ -1,0 +1,39 @@
+-- What the bytes of a record mean: a two-byte length of 105, version 1, then 13 doubles, the highest byte of each number first. Definitions only.
+use Prim.Native.Nat.{ℕ, _+_, _*_}
+use mathlib.Core.Bool.{Bool, not, cond, _||_}
+use mathlib.Core.List.{List}
+use lib.Dec.{eqb, ltb}
+use lib.ListN.{length, drop, getD}
+use lib.Ieee.{Float, binary64, ofBits}
+use Rattle.encoding.specs.Encoding.{bigEndian}
+use Rattle.profile.specs.declared.Start.{Start}
+use Rattle.profile.specs.declared.Target.{Target}
+use Rattle.profile.specs.declared.Limits.{Limits}
+use Rattle.planner.specs.declared.Move.{Move}
+use Rattle.moves.specs.declared.Record.{Record}
+use Rattle.moves.specs.declared.Record.the-variants.{End, Malformed, Whole}
+
+-- double number i of the record; every NaN's pattern is the one NaN
+unfoldable pub double : List ℕ → ℕ → Float
+double b i = ofBits binary64 (bigEndian (drop (3 + 8 * i) b))
+
+-- ---- p0 v0 a0 pf vf af v_max v_min a_max a_min j_max brake accel
+unfoldable pub startOf : List ℕ → Start
+startOf b = record { p0 = double b 0; v0 = double b 1; a0 = double b 2 }
+
+unfoldable pub targetOf : List ℕ → Target
+targetOf b = record { pf = double b 3; vf = double b 4; af = double b 5 }
+
+unfoldable pub limitsOf : List ℕ → Limits
+limitsOf b = record { «v_max» = double b 6; «v_min» = double b 7; «a_max» = double b 8; «a_min» = double b 9; «j_max» = double b 10 }
+
+unfoldable pub moveOf : List ℕ → Move
+moveOf b = record { start = startOf b; target = targetOf b; limits = limitsOf b; brake = double b 11; accel = double b 12 }
+
+-- the input ends inside the record, or its length or version is wrong
+unfoldable pub isMalformed : List ℕ → Bool
+isMalformed b = ltb (length b) 107 || not (eqb (getD b 0 0 * 256 + getD b 1 0) 105) || not (eqb (getD b 2 0) 1)
+
+-- the record that these bytes, the input's next, begin with
+unfoldable pub recordOf : List ℕ → Record
+recordOf b = cond (eqb (length b) 0) End (cond (isMalformed b) Malformed (Whole (moveOf b)))

@@ -1,0 +1,2 @@
+-- The laws of `profile_lines`.
+pub mod PutLaws
