@@ -33,13 +33,13 @@ use Rattle.position_third_step1.specs.TwoStep.{noneTwoStepTries}
 use Rattle.block.specs.Blocks.{total, duration, noInterval, intervalFrom, intervalBetween, blockOf, emptyBlock, planned, refused, isBlocked, blockingOf}
 use Rattle.block.specs.Selection.{near, ofTwo, selected}
 use Rattle.get_profile.specs.Families.{unlessFound, firstOf}
-use Rattle.get_profile.specs.GetProfile.{towardsTarget, restingOneWay, restingBothWays, twoStep, firstSearch, tryFamilies, afterPassing, singleStepAnswer, getProfileBy, getProfile, getProfileAnswer}
+use Rattle.get_profile.specs.GetProfile.{towardsTarget, resting, twoStep, firstSearch, tryFamilies, afterPassing, singleStepAnswer, getProfileBy, getProfile, getProfileAnswer}
 use Rattle.planner.specs.Plan.{finiteStart, finiteTarget, finiteLimits, finiteMove, wrongSign, wrongDuration, planOf}
 use Rattle.shop_checks.specs.Lines.{lineOf}
 use Rattle.shop_checks.specs.ShopChecks.{ShopChecks}
 
 pub shop-checks : ShopChecks
-unfolding lineOf planOf finiteMove finiteStart finiteTarget finiteLimits wrongSign wrongDuration withBoundary emptyProfile getProfileAnswer getProfile getProfileBy hasZeroLimit tryFamilies firstSearch endsAtRest restsAtTarget pointsUp towardsTarget restingBothWays restingOneWay twoStep firstOf unlessFound run bind inTurn answered onlyIf added stored freshList profileOf filled swappedLimits constantsOf noneAcc0Acc1Tries noneRoots rootsIf h2None polynomNone rangeNone triesFor reachedBy timesBy isSkipped timesNone correctedNone newtonNone acc0Roots h0Acc0 h2Acc0 h3Acc0 polynomAcc0 rangeAcc0 shiftedQuartic hasSolution timesAcc0 correctedAcc0 newtonAcc0 acc1Roots h0Acc1 h2Acc1 h3Acc1 polynomAcc1 rangeAcc1 timesAcc1 correctedAcc1 noneTwoStepTries noneTwoStepRadicand scaledRoot timesNoneTwoStep timesNoneSingleStep allVelTries t3Acc0Acc1Vel timesAcc0Acc1Vel singleStepTries changesAcceleration startsAccelerated startsMoving startsAtTarget timesAtConstantSpeed acceptance singleStepAnswer afterPassing selected ofTwo near total duration planned refused blockOf emptyBlock noInterval intervalFrom intervalBetween blockingOf isBlocked checked passes accepted timesPass phasesPass sumPasses zeroPasses zerosPass endPasses rowsPass sums jerkIf jerks rowAfter storedIf outerRow middleRow rowsOf boundsOf directionOf quarticOf withQuadratic inserted ascendingOf sortedFrom placed sqrtOf cbrtOf cosineOf sineOf ofBits add sub mul div neg lt le eq absᶠ toBits
+unfolding lineOf planOf finiteMove finiteStart finiteTarget finiteLimits wrongSign wrongDuration withBoundary emptyProfile getProfileAnswer getProfile getProfileBy hasZeroLimit tryFamilies firstSearch endsAtRest restsAtTarget pointsUp towardsTarget resting twoStep firstOf unlessFound run bind inTurn answered onlyIf added stored freshList profileOf filled swappedLimits constantsOf noneAcc0Acc1Tries noneRoots rootsIf h2None polynomNone rangeNone triesFor reachedBy timesBy isSkipped timesNone correctedNone newtonNone acc0Roots h0Acc0 h2Acc0 h3Acc0 polynomAcc0 rangeAcc0 shiftedQuartic hasSolution timesAcc0 correctedAcc0 newtonAcc0 acc1Roots h0Acc1 h2Acc1 h3Acc1 polynomAcc1 rangeAcc1 timesAcc1 correctedAcc1 noneTwoStepTries noneTwoStepRadicand scaledRoot timesNoneTwoStep timesNoneSingleStep allVelTries t3Acc0Acc1Vel timesAcc0Acc1Vel singleStepTries changesAcceleration startsAccelerated startsMoving startsAtTarget timesAtConstantSpeed acceptance singleStepAnswer afterPassing selected ofTwo near total duration planned refused blockOf emptyBlock noInterval intervalFrom intervalBetween blockingOf isBlocked checked passes accepted timesPass phasesPass sumPasses zeroPasses zerosPass endPasses rowsPass sums jerkIf jerks rowAfter storedIf outerRow middleRow rowsOf boundsOf directionOf quarticOf withQuadratic inserted ascendingOf sortedFrom placed sqrtOf cbrtOf cosineOf sineOf ofBits add sub mul div neg lt le eq absᶠ toBits
 shop-checks =
     record {
       line-1 = refl;

@@ -43,19 +43,19 @@ use Rattle.position_third_step1.specs.TwoStep.{noneTwoStepTries}
 use Rattle.block.specs.Blocks.{total, duration, noInterval, blockOf, planned}
 use Rattle.block.specs.Selection.{selected}
 use Rattle.get_profile.specs.Families.{unlessFound, firstOf}
-use Rattle.get_profile.specs.GetProfile.{towardsTarget, restingOneWay, restingBothWays, twoStep, firstSearch, tryFamilies, afterPassing, singleStepAnswer, getProfileBy, getProfile, getProfileAnswer}
+use Rattle.get_profile.specs.GetProfile.{towardsTarget, resting, twoStep, firstSearch, tryFamilies, afterPassing, singleStepAnswer, getProfileBy, getProfile, getProfileAnswer}
 use Rattle.planner.specs.Plan.{finiteStart, finiteTarget, finiteLimits, finiteMove, wrongSign, wrongDuration, planOf}
 
 move-2-accepted : planOf move-2 .refusal ≡ 0
-unfolding planOf finiteMove finiteStart finiteTarget finiteLimits wrongSign wrongDuration withBoundary emptyProfile getProfileAnswer getProfile getProfileBy hasZeroLimit tryFamilies firstSearch endsAtRest restsAtTarget pointsUp towardsTarget restingBothWays restingOneWay twoStep firstOf unlessFound run bind inTurn answered onlyIf added stored freshList profileOf filled swappedLimits constantsOf noneAcc0Acc1Tries noneRoots rootsIf h2None polynomNone rangeNone triesFor reachedBy timesBy isSkipped timesNone correctedNone newtonNone acc0Roots h0Acc0 h2Acc0 h3Acc0 polynomAcc0 rangeAcc0 shiftedQuartic hasSolution timesAcc0 correctedAcc0 newtonAcc0 acc1Roots h0Acc1 h2Acc1 h3Acc1 polynomAcc1 rangeAcc1 timesAcc1 correctedAcc1 noneTwoStepTries noneTwoStepRadicand scaledRoot timesNoneTwoStep timesNoneSingleStep allVelTries t3Acc0Acc1Vel timesAcc0Acc1Vel singleStepTries changesAcceleration startsAccelerated startsMoving startsAtTarget timesAtConstantSpeed acceptance singleStepAnswer afterPassing selected total duration planned blockOf noInterval passes accepted timesPass phasesPass sumPasses zeroPasses zerosPass endPasses rowsPass sums jerkIf jerks rowAfter storedIf outerRow middleRow rowsOf boundsOf directionOf quarticOf withQuadratic inserted ascendingOf sortedFrom placed sqrtOf ofBits add sub mul div neg lt le eq absᶠ
+unfolding planOf finiteMove finiteStart finiteTarget finiteLimits wrongSign wrongDuration withBoundary emptyProfile getProfileAnswer getProfile getProfileBy hasZeroLimit tryFamilies firstSearch endsAtRest restsAtTarget pointsUp towardsTarget resting twoStep firstOf unlessFound run bind inTurn answered onlyIf added stored freshList profileOf filled swappedLimits constantsOf noneAcc0Acc1Tries noneRoots rootsIf h2None polynomNone rangeNone triesFor reachedBy timesBy isSkipped timesNone correctedNone newtonNone acc0Roots h0Acc0 h2Acc0 h3Acc0 polynomAcc0 rangeAcc0 shiftedQuartic hasSolution timesAcc0 correctedAcc0 newtonAcc0 acc1Roots h0Acc1 h2Acc1 h3Acc1 polynomAcc1 rangeAcc1 timesAcc1 correctedAcc1 noneTwoStepTries noneTwoStepRadicand scaledRoot timesNoneTwoStep timesNoneSingleStep allVelTries t3Acc0Acc1Vel timesAcc0Acc1Vel singleStepTries changesAcceleration startsAccelerated startsMoving startsAtTarget timesAtConstantSpeed acceptance singleStepAnswer afterPassing selected total duration planned blockOf noInterval passes accepted timesPass phasesPass sumPasses zeroPasses zerosPass endPasses rowsPass sums jerkIf jerks rowAfter storedIf outerRow middleRow rowsOf boundsOf directionOf quarticOf withQuadratic inserted ascendingOf sortedFrom placed sqrtOf ofBits add sub mul div neg lt le eq absᶠ
 move-2-accepted = refl
 
 staying-breaks-it : Promise move-2 (planOf move-1) → ⊥
-unfolding planOf finiteMove finiteStart finiteTarget finiteLimits wrongSign wrongDuration withBoundary emptyProfile getProfileAnswer getProfile getProfileBy hasZeroLimit tryFamilies firstSearch endsAtRest restsAtTarget pointsUp towardsTarget restingBothWays restingOneWay twoStep firstOf unlessFound run bind inTurn answered onlyIf added stored freshList profileOf filled swappedLimits constantsOf noneAcc0Acc1Tries noneRoots rootsIf h2None polynomNone rangeNone triesFor reachedBy timesBy isSkipped timesNone correctedNone newtonNone acc0Roots h0Acc0 h2Acc0 h3Acc0 polynomAcc0 rangeAcc0 shiftedQuartic hasSolution timesAcc0 correctedAcc0 newtonAcc0 acc1Roots h0Acc1 h2Acc1 h3Acc1 polynomAcc1 rangeAcc1 timesAcc1 correctedAcc1 noneTwoStepTries noneTwoStepRadicand scaledRoot timesNoneTwoStep timesNoneSingleStep allVelTries t3Acc0Acc1Vel timesAcc0Acc1Vel singleStepTries changesAcceleration startsAccelerated startsMoving startsAtTarget timesAtConstantSpeed acceptance singleStepAnswer afterPassing selected total duration planned blockOf noInterval passes accepted timesPass phasesPass sumPasses zeroPasses zerosPass endPasses rowsPass sums jerkIf jerks rowAfter storedIf outerRow middleRow rowsOf boundsOf directionOf quarticOf withQuadratic inserted ascendingOf sortedFrom placed sqrtOf ofBits add sub mul div neg lt le eq absᶠ replayed atStart phase zeroedIf replacedIf storedRows positionAllowance underflow T Sa Sv Sp sumTo scale exact
+unfolding planOf finiteMove finiteStart finiteTarget finiteLimits wrongSign wrongDuration withBoundary emptyProfile getProfileAnswer getProfile getProfileBy hasZeroLimit tryFamilies firstSearch endsAtRest restsAtTarget pointsUp towardsTarget resting twoStep firstOf unlessFound run bind inTurn answered onlyIf added stored freshList profileOf filled swappedLimits constantsOf noneAcc0Acc1Tries noneRoots rootsIf h2None polynomNone rangeNone triesFor reachedBy timesBy isSkipped timesNone correctedNone newtonNone acc0Roots h0Acc0 h2Acc0 h3Acc0 polynomAcc0 rangeAcc0 shiftedQuartic hasSolution timesAcc0 correctedAcc0 newtonAcc0 acc1Roots h0Acc1 h2Acc1 h3Acc1 polynomAcc1 rangeAcc1 timesAcc1 correctedAcc1 noneTwoStepTries noneTwoStepRadicand scaledRoot timesNoneTwoStep timesNoneSingleStep allVelTries t3Acc0Acc1Vel timesAcc0Acc1Vel singleStepTries changesAcceleration startsAccelerated startsMoving startsAtTarget timesAtConstantSpeed acceptance singleStepAnswer afterPassing selected total duration planned blockOf noInterval passes accepted timesPass phasesPass sumPasses zeroPasses zerosPass endPasses rowsPass sums jerkIf jerks rowAfter storedIf outerRow middleRow rowsOf boundsOf directionOf quarticOf withQuadratic inserted ascendingOf sortedFrom placed sqrtOf ofBits add sub mul div neg lt le eq absᶠ replayed atStart phase zeroedIf replacedIf storedRows positionAllowance underflow T Sa Sv Sp sumTo scale exact
 staying-breaks-it h = not-le-of-lt (lit< tt) (h refl .shortest .position)
 
 leaving-breaks-it : Promise move-1 (planOf move-2) → ⊥
-unfolding planOf finiteMove finiteStart finiteTarget finiteLimits wrongSign wrongDuration withBoundary emptyProfile getProfileAnswer getProfile getProfileBy hasZeroLimit tryFamilies firstSearch endsAtRest restsAtTarget pointsUp towardsTarget restingBothWays restingOneWay twoStep firstOf unlessFound run bind inTurn answered onlyIf added stored freshList profileOf filled swappedLimits constantsOf noneAcc0Acc1Tries noneRoots rootsIf h2None polynomNone rangeNone triesFor reachedBy timesBy isSkipped timesNone correctedNone newtonNone acc0Roots h0Acc0 h2Acc0 h3Acc0 polynomAcc0 rangeAcc0 shiftedQuartic hasSolution timesAcc0 correctedAcc0 newtonAcc0 acc1Roots h0Acc1 h2Acc1 h3Acc1 polynomAcc1 rangeAcc1 timesAcc1 correctedAcc1 noneTwoStepTries noneTwoStepRadicand scaledRoot timesNoneTwoStep timesNoneSingleStep allVelTries t3Acc0Acc1Vel timesAcc0Acc1Vel singleStepTries changesAcceleration startsAccelerated startsMoving startsAtTarget timesAtConstantSpeed acceptance singleStepAnswer afterPassing selected total duration planned blockOf noInterval passes accepted timesPass phasesPass sumPasses zeroPasses zerosPass endPasses rowsPass sums jerkIf jerks rowAfter storedIf outerRow middleRow rowsOf boundsOf directionOf quarticOf withQuadratic inserted ascendingOf sortedFrom placed sqrtOf ofBits add sub mul div neg lt le eq absᶠ replayed atStart phase zeroedIf replacedIf storedRows positionAllowance underflow T Sa Sv Sp sumTo scale exact
+unfolding planOf finiteMove finiteStart finiteTarget finiteLimits wrongSign wrongDuration withBoundary emptyProfile getProfileAnswer getProfile getProfileBy hasZeroLimit tryFamilies firstSearch endsAtRest restsAtTarget pointsUp towardsTarget resting twoStep firstOf unlessFound run bind inTurn answered onlyIf added stored freshList profileOf filled swappedLimits constantsOf noneAcc0Acc1Tries noneRoots rootsIf h2None polynomNone rangeNone triesFor reachedBy timesBy isSkipped timesNone correctedNone newtonNone acc0Roots h0Acc0 h2Acc0 h3Acc0 polynomAcc0 rangeAcc0 shiftedQuartic hasSolution timesAcc0 correctedAcc0 newtonAcc0 acc1Roots h0Acc1 h2Acc1 h3Acc1 polynomAcc1 rangeAcc1 timesAcc1 correctedAcc1 noneTwoStepTries noneTwoStepRadicand scaledRoot timesNoneTwoStep timesNoneSingleStep allVelTries t3Acc0Acc1Vel timesAcc0Acc1Vel singleStepTries changesAcceleration startsAccelerated startsMoving startsAtTarget timesAtConstantSpeed acceptance singleStepAnswer afterPassing selected total duration planned blockOf noInterval passes accepted timesPass phasesPass sumPasses zeroPasses zerosPass endPasses rowsPass sums jerkIf jerks rowAfter storedIf outerRow middleRow rowsOf boundsOf directionOf quarticOf withQuadratic inserted ascendingOf sortedFrom placed sqrtOf ofBits add sub mul div neg lt le eq absᶠ replayed atStart phase zeroedIf replacedIf storedRows positionAllowance underflow T Sa Sv Sp sumTo scale exact
 leaving-breaks-it h = not-le-of-lt (lit< tt) (h refl .shortest .position)
 
 pub promise-applies : PromiseApplies
