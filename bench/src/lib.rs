@@ -90,3 +90,12 @@ impl Numbers {
 pub fn same(x: f64, y: f64) -> bool {
     x.to_bits() == y.to_bits() || (x.is_nan() && y.is_nan())
 }
+
+/// The whole number in this place of the command line. A word that is none ends the program with the usage.
+pub fn whole_number(words: &[String], place: usize, otherwise: u64, usage: &str) -> u64 {
+    let Some(word) = words.get(place) else { return otherwise };
+    word.parse().unwrap_or_else(|_| {
+        eprintln!("{word}: not a whole number\nusage: {usage}");
+        std::process::exit(2)
+    })
+}

@@ -1,5 +1,5 @@
 //! Compares the archive's elementary functions with the hardware's square root and the oracle's exact functions: `elementary_compare [COUNT [SEED]]`.
-use bench::Numbers;
+use bench::{whole_number, Numbers};
 use nearest::{cbrt, cosine_and_sine_of_third};
 
 type Function = fn(f64) -> f64;
@@ -20,13 +20,11 @@ fn differences(name: &str, count: u64, mut argument: impl FnMut() -> f64, ours: 
     found
 }
 
-fn number(at: usize, otherwise: u64) -> u64 {
-    std::env::args().nth(at).map_or(otherwise, |word| word.parse().expect("a whole number"))
-}
-
 fn main() {
-    let count = number(1, 10_000_000);
-    let mut r = Numbers(number(2, 1));
+    let words: Vec<String> = std::env::args().skip(1).collect();
+    let number = |place, otherwise| whole_number(&words, place, otherwise, "elementary_compare [COUNT [SEED]]");
+    let count = number(0, 10_000_000);
+    let mut r = Numbers(number(1, 1));
     let mut found = differences("sqrt", count, || r.any(), bench::sqrt, f64::sqrt);
     found += differences("cbrt", count, || r.any(), bench::cbrt, cbrt);
     found += differences("cosine", count, || r.cosine(), |t| bench::cosine_pair(t).0, |t| cosine_and_sine_of_third(t).0);

@@ -1,15 +1,14 @@
 //! Compares the archive's plans with the oracle's, verdict and every number: `plan_compare [COUNT [SEED [THREADS]]]`.
 use bench::plan_inputs::{chunks, Chunk};
 use bench::plan_tally::{wrong_lengths, Tally};
+use bench::whole_number;
 use std::sync::atomic::{AtomicUsize, Ordering};
 use std::thread;
 
-fn number(at: usize, otherwise: u64) -> u64 {
-    std::env::args().nth(at).map_or(otherwise, |word| word.parse().expect("a whole number"))
-}
-
 fn main() {
-    let (count, seed, threads) = (number(1, 10_000_000), number(2, 1), number(3, 1));
+    let words: Vec<String> = std::env::args().skip(1).collect();
+    let number = |place, otherwise| whole_number(&words, place, otherwise, "plan_compare [COUNT [SEED [THREADS]]]");
+    let (count, seed, threads) = (number(0, 10_000_000), number(1, 1), number(2, 1));
     let wrong = wrong_lengths();
     wrong.iter().for_each(|line| println!("{line}"));
     let mut tally = compare(&chunks(count, seed), threads);

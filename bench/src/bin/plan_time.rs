@@ -11,6 +11,7 @@ mod program;
 mod roots;
 
 use answers::Move;
+use bench::whole_number;
 use clock::{Blocks, Singles};
 use planners::{fresh, reused, Answer, Library};
 use programs::generators::moves::ordinary;
@@ -84,17 +85,21 @@ fn compare(seed: u64, rounds: usize) {
     }
 }
 
-fn number(word: Option<&String>, otherwise: u64) -> u64 {
-    word.map_or(otherwise, |word| word.parse().expect("a whole number"))
+const USAGE: &str = "plan_time [SEED [ROUNDS]], or plan_time --program PATH [SEED [RECORDS]]";
+
+fn stop(message: &str) -> ! {
+    eprintln!("{message}");
+    std::process::exit(2)
 }
 
 fn main() {
     let words: Vec<String> = std::env::args().skip(1).collect();
+    let number = |place, otherwise| whole_number(&words, place, otherwise, USAGE);
     if words.first().is_some_and(|word| word == "--program") {
-        let path = words.get(1).expect("the path of a program");
-        let (seed, records) = (number(words.get(2), SEED), number(words.get(3), RECORDS as u64));
-        program::time(path, seed, records as usize).unwrap_or_else(|error| panic!("{path}: {error}"));
+        let Some(path) = words.get(1) else { stop(&format!("usage: {USAGE}")) };
+        let (seed, records) = (number(2, SEED), number(3, RECORDS as u64));
+        program::time(path, seed, records as usize).unwrap_or_else(|error| stop(&format!("{path}: {error}")));
     } else {
-        compare(number(words.first(), SEED), number(words.get(1), ROUNDS as u64) as usize);
+        compare(number(0, SEED), number(1, ROUNDS as u64) as usize);
     }
 }
