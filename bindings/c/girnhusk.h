@@ -31,7 +31,7 @@ enum {
     GIRNHUSK_MOVE_A_MAX = 8,
     GIRNHUSK_MOVE_A_MIN = 9,
     GIRNHUSK_MOVE_J_MAX = 10,
-    GIRNHUSK_MOVE_BRAKE = 11, /* durations of what runs before the plan, from 0 to 1e12 */
+    GIRNHUSK_MOVE_BRAKE = 11, /* durations that are only added to the plan's: brake and accel, from 0 to 1e12 */
     GIRNHUSK_MOVE_ACCEL = 12,
     GIRNHUSK_MOVE_LENGTH = 13
 };
@@ -40,7 +40,7 @@ enum {
 enum {
     GIRNHUSK_PLAN_DURATION = 0,    /* the shortest duration, with brake and accel */
     GIRNHUSK_PLAN_PROFILE = 1,     /* the profile that takes it */
-    GIRNHUSK_PLAN_STRETCH_A = 54,  /* two stretches of durations that no profile has; they are not sorted and can overlap */
+    GIRNHUSK_PLAN_STRETCH_A = 54,  /* two stretches of blocked durations; they are not sorted and can overlap */
     GIRNHUSK_PLAN_STRETCH_B = 110,
     GIRNHUSK_PLAN_LENGTH = 166
 };
@@ -68,7 +68,7 @@ enum {
     GIRNHUSK_PROFILE_PF = 48,           /* the target */
     GIRNHUSK_PROFILE_VF = 49,
     GIRNHUSK_PROFILE_AF = 50,
-    GIRNHUSK_PROFILE_BRAKE = 51, /* the durations of what runs before it */
+    GIRNHUSK_PROFILE_BRAKE = 51, /* the durations that are only added */
     GIRNHUSK_PROFILE_ACCEL = 52,
     GIRNHUSK_PROFILE_LENGTH = 53
 };
@@ -113,7 +113,7 @@ enum girnhusk_blocking {
     GIRNHUSK_PLAN_SHORT = 9       /* plan has fewer than 166 doubles */
 };
 
-/* Whether the plan that girnhusk_plan wrote cannot be made to take the duration t. */
+/* Whether the duration t is blocked by the plan that girnhusk_plan wrote: below the shortest duration, or inside a stretch. */
 uint64_t girnhusk_is_blocked(const double *plan, size_t plan_len, double t);
 
 /* ---- The elementary functions as the planner uses them. Each gives the double nearest the exact number. */

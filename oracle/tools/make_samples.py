@@ -5,7 +5,7 @@
 
 FOLDER receives
     plan_moves.stdin  plan_moves.stdout     some 2,000 moves; the input ends inside a record
-    plan_full.stdin   plan_full.stdout      some 700 of the same moves, ending alike
+    plan_full.stdin   plan_full.stdout      some 900 of the same moves, ending alike
     four.*                                  document 01's four moves, through both programs
     eight/*                                 the forms of refusal 8, each through both programs
 

@@ -10,7 +10,7 @@ use std::fmt;
 
 use raw::{MOVE_LENGTH, PLAN_LENGTH};
 
-/// Where a move starts and ends, its limits, and the durations of what runs before it, in any consistent units.
+/// Where a move starts and ends, its limits, and two durations that are only added to the plan's, in any consistent units.
 #[derive(Clone, Copy, Debug, Default, PartialEq)]
 pub struct Move {
     /// Position at the start.
@@ -35,9 +35,9 @@ pub struct Move {
     pub a_min: f64,
     /// Highest jerk in either direction, at least 0.
     pub j_max: f64,
-    /// Duration of a brake trajectory before the plan, from 0 to 1e12.
+    /// A duration that is only added to the plan's, from 0 to 1e12.
     pub brake: f64,
-    /// Duration of an acceleration trajectory before the plan, from 0 to 1e12.
+    /// Another, from 0 to 1e12.
     pub accel: f64,
 }
 
@@ -159,9 +159,9 @@ pub struct Profile {
     pub vf: f64,
     /// The target's acceleration.
     pub af: f64,
-    /// The duration of the brake trajectory before it.
+    /// The brake duration that is added.
     pub brake: f64,
-    /// The duration of the acceleration trajectory before it.
+    /// The accel duration that is added.
     pub accel: f64,
 }
 

@@ -1,4 +1,4 @@
--- How many checks a plan makes: at most 2 where a limit is 0, at most 30 for a rest that is its own target, and never more than 54. Assumes nothing.
+-- How many checks a plan makes: at most 2 where j_max, a_max or a_min is 0, at most 30 for a rest that is its own target, and never more than 54. Assumes nothing.
 use Prim.Native.Nat.{ℕ, _+_}
 use mathlib.Core.Path.{_≡_, sym, ap, subst}
 use mathlib.Core.Bool.{Bool, true, false}

@@ -11,7 +11,7 @@ use profile::Profile;
 use profile::Start;
 use profile::Target;
 
-// Where a move starts and ends, its limits, and the durations of what runs before it.
+// Where a move starts and ends, its limits, and two durations that are only added to the plan's.
 pub struct Move {
     pub start: Start,
     pub target: Target,

@@ -30,7 +30,7 @@ pub enum ControlSigns {
     UDUD,
 }
 
-// Seven phases of constant jerk, and the eight rows before and after them. brake and accel are the durations of what runs before.
+// Seven phases of constant jerk, and the eight rows before and after them. brake and accel are durations that are only added.
 pub struct Profile {
     pub t: [f64; 7],
     pub t_sum: [f64; 7],
