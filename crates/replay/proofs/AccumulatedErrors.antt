@@ -42,7 +42,7 @@ pub record RowsMade (row : ℕ → Row) (h : ℕ → Phase) (N : ℕ) : Type 0 w
 module _ (row : ℕ → Row) (h : ℕ → Phase) (N : ℕ) (k : RowsMade row h N) where
   pub row-fits : (n : ℕ) → n ≤ N → RowFits (row n)
   row-fits zero l = k .first
-  row-fits (suc n) l = subst (λ (r : Row). RowFits r) (sym (k .made n l)) (next-fits (h n) (row n))
+  row-fits (suc n) l = subst (λ (r : Row). RowFits r) (sym (k .made n l)) (next-fits (h n) (row n) (k .phases n l))
 
   -- ---- a finite motion at row n has only finite ones before it
   previous-finite : (n : ℕ) → n < N → MotionFinite (row (suc n)) → MotionFinite (row n) × PhaseFinite (h n)

@@ -3,8 +3,7 @@
 use Prim.Native.Nat.{ℕ, zero, suc, _+_, _*_}
 use mathlib.Core.Bool.{Bool, cond}
 use lib.Ieee.{Float}
-use Rattle.doubles.specs.Constants.{0ᶠ}
-use Rattle.doubles.specs.Signed.{Signed, zeroˢ, _⊕_, _⊙_, size}
+use Rattle.doubles.specs.Signed.{Signed, _⊕_, _⊙_, size}
 use Rattle.doubles.specs.Value.{val}
 use Rattle.doubles.proofs.ErrorChain.{H}
 use Rattle.profile_rows.specs.Rows.{rowAfter, storedIf}
@@ -18,14 +17,15 @@ abbrev pub 2⁵⁰ : ℕ
 
 -- ---- in doubles
 
--- a phase's time and jerk, and whether the acceleration after it is set to 0
+-- a phase's time and jerk, and whether the acceleration after it is set, and to what
 pub record Phase : Type 0 where
   pub t : Float
   pub j : Float
-  pub zeroes : Bool
+  pub sets : Bool
+  pub a : Float
 
 unfoldable pub nextRow : Phase → Row → Row
-nextRow h r = storedIf (h .zeroes) 0ᶠ (rowAfter r (h .t) (h .j))
+nextRow h r = storedIf (h .sets) (h .a) (rowAfter r (h .t) (h .j))
 
 -- ---- exactly
 pub record Stateˢ : Type 0 where
@@ -43,7 +43,7 @@ time h = val (h .t) .plus
 abbrev pub jerk : Phase → Signed
 jerk h = val (h .j)
 
--- the state after a phase, before z is set to 0
+-- the state after a phase, before z is set
 abbrev pub moved : Phase → Stateˢ → Stateˢ
 moved h s =
     record {
@@ -52,11 +52,11 @@ moved h s =
       z = s .z ⊕ time h ⊙ jerk h;
     }
 
-abbrev pub zeroedIfˢ : Bool → Stateˢ → Stateˢ
-zeroedIfˢ b s = record { x = s .x; y = s .y; z = cond b zeroˢ (s .z) }
+abbrev pub setIfˢ : Bool → Float → Stateˢ → Stateˢ
+setIfˢ b a s = record { x = s .x; y = s .y; z = cond b (U ⊙ val a) (s .z) }
 
 abbrev pub nextState : Phase → Stateˢ → Stateˢ
-nextState h s = zeroedIfˢ (h .zeroes) (moved h s)
+nextState h s = setIfˢ (h .sets) (h .a) (moved h s)
 
 -- ---- a phase's part of Sa, Sv, Sp
 abbrev pub sizeA : Row → Phase → ℕ

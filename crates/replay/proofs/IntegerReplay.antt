@@ -1,16 +1,18 @@
--- The replay and the allowance's sums, which are stated over integers, are those over pairs, where no limit is stored and no time is negative. Assumes nothing.
+-- The replay and the allowance's sums, which are stated over integers, are those over pairs, where no time is negative. Assumes nothing.
 use mathlib.Core.Path.{_≡_, refl, ap, _∙_, subst}
 use Prim.Native.Nat.{ℕ, zero, suc, _+_, _-_, _*_, _≤_, _<_}
 use native.Mathlib.Nat.{le-refl, le-of-lt, le-step}
 use native.Mathlib.Omega.{arith}
-use mathlib.Core.Bool.{Bool, true, false, _&&_}
+use mathlib.Core.Bool.{Bool, true, false, _&&_, _||_, cond}
 use lib.IntN.{ℤ, pos, _+ℤ_, _*ℤ_, *ℤ-comm}
 use lib.Dec.{eqb}
-use lib.Ieee.{Float}
+use lib.Ieee.{Float, binary64}
 use Rattle.doubles.specs.Operators.{_<ᶠ_, at}
+use Rattle.doubles.specs.Constants.{0ᶠ}
 use Rattle.doubles.specs.Exact.{exact, exactSize}
 use Rattle.doubles.specs.Signed.{Signed, _⊕_, _⊙_, size}
 use Rattle.doubles.specs.Value.{val}
+use Rattle.doubles.proofs.ValueLaws.{zero-value}
 use Rattle.doubles.proofs.IntegerLaws.{Same, same-add, same-by, same-times, same-size, exact-same}
 use Rattle.profile.specs.Names.{clearsRow3}
 use Rattle.profile.specs.Boundary.{startOf}
@@ -18,11 +20,19 @@ use Rattle.profile.specs.declared.Profile.{Profile}
 use Rattle.profile_check.proofs.Accepted.{rowAt}
 use Rattle.replay.specs.Replay.{U, State, atStart, phase, zeroedIf, replacedIf, 1e50ᶠ, replayed}
 use Rattle.replay.specs.Allowance.{T, Sa, Sv, Sp}
-use Rattle.replay.proofs.ExactMotion.{Phase, Stateˢ, rowState, time, jerk, moved, zeroedIfˢ, stateAt, sumTo, timeTo, sumA, sumV, sumP}
+use Rattle.replay.proofs.ExactMotion.{Phase, Stateˢ, rowState, time, jerk, moved, setIfˢ, stateAt, sumTo, timeTo, sumA, sumV, sumP}
+use Rattle.replay.proofs.PhaseErrors.{zero-is}
 
--- a profile's phase i
-abbrev pub phaseAt : Profile → ℕ → Phase
-phaseAt q i = record { t = at (q .t) i; j = at (q .j) i; zeroes = eqb i 2 && clearsRow3 (q .limits) }
+-- ---- a profile's phases, and the rows whose accelerations are taken from the profile
+
+-- those that the replay takes
+abbrev pub takenBy : Float → (ℕ → Bool) → ℕ → Bool
+takenBy j-max stored i = (1e50ᶠ <ᶠ j-max) && stored i
+
+-- phase i: row i + 1's acceleration is the profile's where it is taken, and else 0 where it is set to 0
+abbrev pub phaseAt : Profile → (taken : ℕ → Bool) → ℕ → Phase
+phaseAt q taken i =
+    record { t = at (q .t) i; j = at (q .j) i; sets = taken (suc i) || eqb i 2 && clearsRow3 (q .limits); a = cond (taken (suc i)) (at (q .a) (suc i)) 0ᶠ }
 
 -- ---- products by a number that is not negative, on the right
 same-by-right : (k l : ℤ) (x y : Signed) → Same k x → Same l y → y .less ≡ 0 → Same (k *ℤ l) (y .plus ⊙ x)
@@ -71,19 +81,18 @@ module _ (h : Phase) (n : val (h .t) .less ≡ 0) (s : State) (u : Stateˢ) (o :
       }
 
 module _ (s : State) (u : Stateˢ) (o : SameState s u) where
-  same-zeroed : (b : Bool) → SameState (zeroedIf b s) (zeroedIfˢ b u)
-  unfolding zeroedIf
-  same-zeroed true = record { x = o .x; y = o .y; z = refl }
-  same-zeroed false = record { x = o .x; y = o .y; z = o .z }
+  -- first zeroed, then replaced
+  same-set : (taken zeroed : Bool) (a : Float) → SameState (replacedIf taken a (zeroedIf zeroed s)) (setIfˢ (taken || zeroed) (cond taken a 0ᶠ) u)
+  unfolding replacedIf zeroedIf
+  same-set true zeroed a = record { x = o .x; y = o .y; z = same-times U (exact a) (val a) (exact-same a) }
+  same-set false true a = record { x = o .x; y = o .y; z = rw (zero-is, zero-value binary64 false) (omega arith) }
+  same-set false false a = record { x = o .x; y = o .y; z = o .z }
 
-  -- where nothing was stored
-  same-replaced : (b c : Bool) (a : Float) → c ≡ false → SameState (replacedIf (b && c) a s) u
-  unfolding replacedIf
-  same-replaced true c a e = rw e (record { x = o .x; y = o .y; z = o .z })
-  same-replaced false c a e = record { x = o .x; y = o .y; z = o .z }
+module _ (j-max : Float) (q : Profile) (stored : ℕ → Bool) (N : ℕ) (n : (i : ℕ) → i < N → val (at (q .t) i) .less ≡ 0) where
+  abbrev h : ℕ → Phase
+  h = phaseAt q (takenBy j-max stored)
 
-module _ (j-max : Float) (q : Profile) (stored : ℕ → Bool) (N : ℕ) (none : (i : ℕ) → stored i ≡ false) (n : (i : ℕ) → i < N → val (at (q .t) i) .less ≡ 0) where
-  pub same-replay : (i : ℕ) → i ≤ N → SameState (replayed (startOf q) j-max q stored i) (stateAt (phaseAt q) (rowState (rowAt q 0)) i)
+  pub same-replay : (i : ℕ) → i ≤ N → SameState (replayed (startOf q) j-max q stored i) (stateAt h (rowState (rowAt q 0)) i)
   unfolding replayed atStart stateAt
   same-replay zero l =
       record {
@@ -92,10 +101,9 @@ module _ (j-max : Float) (q : Profile) (stored : ℕ → Bool) (N : ℕ) (none :
         z = same-times U (exact (at (q .a) 0)) (val (at (q .a) 0)) (exact-same (at (q .a) 0));
       }
   same-replay (suc i) l =
-      let h = phaseAt q i in
       let s = replayed (startOf q) j-max q stored i in
-      let u = stateAt (phaseAt q) (rowState (rowAt q 0)) i in
-      same-replaced _ _ (same-zeroed _ _ (same-phase h (n i l) s u (same-replay i (le-of-lt l))) (h .zeroes)) (1e50ᶠ <ᶠ j-max) (stored (suc i)) (at (q .a) (suc i)) (none (suc i))
+      let u = stateAt h (rowState (rowAt q 0)) i in
+      same-set _ _ (same-phase (h i) (n i l) s u (same-replay i (le-of-lt l))) (takenBy j-max stored (suc i)) (eqb i 2 && clearsRow3 (q .limits)) (at (q .a) (suc i))
 
 -- ---- the sums
 pub exact-size : (x : Float) → exactSize x ≡ size (val x)
@@ -112,20 +120,20 @@ unfolding sumTo
 sum-same zero f g e = refl
 sum-same (suc n) f g e = let a = sum-same n f g (λ i l. e i (le-step l)) in let b = e n (le-refl (suc n)) in omega arith
 
-module _ (q : Profile) (n : (i : ℕ) → i < 7 → val (at (q .t) i) .less ≡ 0) where
-  pub T-is : T q ≡ timeTo (phaseAt q) 7
+module _ (q : Profile) (taken : ℕ → Bool) (n : (i : ℕ) → i < 7 → val (at (q .t) i) .less ≡ 0) where
+  pub T-is : T q ≡ timeTo (phaseAt q taken) 7
   unfolding T timeTo
   T-is = sum-same 7 _ _ (λ i l. exact-time (at (q .t) i) (n i l))
 
-  pub Sa-is : Sa q ≡ sumA (rowAt q) (phaseAt q) 7
+  pub Sa-is : Sa q ≡ sumA (rowAt q) (phaseAt q taken) 7
   unfolding Sa sumA
   Sa-is = sum-same 7 _ _ (λ i l. rw (exact-time (at (q .t) i) (n i l), exact-size (at (q .a) i), exact-size (at (q .j) i)) (omega arith))
 
-  pub Sv-is : Sv q ≡ sumV (rowAt q) (phaseAt q) 7
+  pub Sv-is : Sv q ≡ sumV (rowAt q) (phaseAt q taken) 7
   unfolding Sv sumV
   Sv-is = sum-same 7 _ _ (λ i l. rw (exact-time (at (q .t) i) (n i l), exact-size (at (q .v) i), exact-size (at (q .a) i), exact-size (at (q .j) i)) (omega arith))
 
-  pub Sp-is : Sp q ≡ sumP (rowAt q) (phaseAt q) 7
+  pub Sp-is : Sp q ≡ sumP (rowAt q) (phaseAt q taken) 7
   unfolding Sp sumP
   Sp-is =
       sum-same 7 _ _

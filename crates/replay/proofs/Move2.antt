@@ -12,6 +12,7 @@ use lib.Ieee.{Float, binary64, neg, fits, ofBits}
 use Rattle.doubles.specs.Constants.{0ᶠ, ½ᶠ, 1ᶠ, 2ᶠ, 3ᶠ, 4ᶠ, 5ᶠ, 6ᶠ}
 use Rattle.doubles.specs.Functions.{absᶠ}
 use Rattle.doubles.specs.Exact.{scale, exact, exactSize}
+use Rattle.doubles.specs.Value.{Fits}
 use Rattle.profile.specs.Tolerances.{pPrecision, vPrecision, aPrecision}
 use Rattle.profile.specs.Limits.{directionOf, boundsOf}
 use Rattle.profile.specs.Boundary.{startOf, targetOf}
@@ -28,7 +29,7 @@ use Rattle.profile_check.proofs.Accepted.{each-phase}
 use Rattle.replay.specs.Replay.{U, atStart, phase, zeroedIf, replacedIf, storedRows, replayed}
 use Rattle.replay.specs.Allowance.{sumTo, underflow, T, Sa, Sv, Sp, positionAllowance, velocityAllowance, accelerationAllowance}
 use Rattle.replay.specs.Promise.{fromExact, EndsAt}
-use Rattle.replay.proofs.CheckedReplay.{ProfileFits, check-ends-at}
+use Rattle.replay.proofs.CheckedReplay.{ProfileFits, none-stored, none-taken, check-ends-at}
 
 -- ---- the scales are the paper's: what makes a state's x a whole number of the promise, a double, and 2 ^ -800
 scales : (2 ^ 50 * (6 * (U * U * U * U)) ≡ 6 * 2 ^ 4346) × (fromExact * U ≡ 6 * 2 ^ 4346) × (underflow * 2 ^ 800 ≡ 6 * 2 ^ 4346)
@@ -98,11 +99,15 @@ given-fits : ProfileFits given (λ i. 1ᶠ)
 unfolding fromRest ofBits fits
 given-fits = record { start = record { p = tt; v = tt; a = tt }; times = each-phase _ tt tt tt tt tt tt tt; jerks = λ i l. tt; pf = tt; vf = tt; af = tt }
 
+pub unit-fits : Fits (unitLimits .«a_max») × Fits (unitLimits .«a_min»)
+unfolding unitLimits ofBits fits neg
+unit-fits = (tt, tt)
+
 -- the theorem, there
 pub move-2-ends-at : EndsAt (startOf given) (targetOf given) 1ᶠ plan (storedRows false Vel)
 move-2-ends-at =
     subst (λ (c : Checked). EndsAt (startOf given) (targetOf given) 1ᶠ (c .profile) (storedRows false Vel)) move-2-checked
-    (check-ends-at given UDDU Vel 1ᶠ unitLimits 1ᶠ given-fits (ap (λ (c : Checked). c .ok) move-2-checked))
+    (check-ends-at given UDDU Vel false 1ᶠ unitLimits given-fits (unit-fits .0) (unit-fits .1) (ap (λ (c : Checked). c .ok) move-2-checked) 1ᶠ (none-taken 1ᶠ (storedRows false Vel) (none-stored Vel)))
 
 -- the left sides are 0: the replay ends at 4, at rest
 end-is : replayed (startOf given) 1ᶠ plan (storedRows false Vel) 7 ≡ record { x = pos (4 * (6 * (U * U * U * U))); y = pos 0; z = pos 0 }

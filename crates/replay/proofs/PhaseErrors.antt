@@ -10,9 +10,8 @@ use lib.Ieee.{Float, fin, binary64, fits, ofBits}
 use lib.Ieee.Fits.{add-fits, cond-fits}
 use Rattle.doubles.specs.Operators.{_+ᶠ_, _*ᶠ_, _/ᶠ_, _<ᶠ_}
 use Rattle.doubles.specs.Constants.{0ᶠ, 2ᶠ, 6ᶠ}
-use Rattle.doubles.specs.Signed.{Signed, zeroˢ, _⊕_, _⊙_, Near}
+use Rattle.doubles.specs.Signed.{Signed, _⊕_, _⊙_, Near}
 use Rattle.doubles.specs.Value.{val, Fits, Finite}
-use Rattle.doubles.proofs.ValueLaws.{zero-value}
 use Rattle.doubles.proofs.OperationLaws.{add-finite, mul-finite, div-finite}
 use Rattle.doubles.proofs.OrderLaws.{not-negative}
 use Rattle.profile_rows.specs.Rows.{rowAfter, storedIf}
@@ -48,10 +47,11 @@ carry-x t j a v p p′ x y z ex ey ez l h g k m =
       high = omega (arith, h .high, g .high, mul-le-mul-left (3 * t) (k .high), mul-le-mul-left (3 * (t * t)) (m .high));
     }
 
--- ---- what is asked of a phase and a row: they are of doubles, and the time is not below 0 (it may be a NaN)
+-- ---- what is asked of a phase and a row: they are of doubles, what is set too, and the time is not below 0 (it may be a NaN)
 pub record PhaseFits (h : Phase) : Type 0 where
   pub t : Fits (h .t)
   pub j : Fits (h .j)
+  pub a : Fits (h .a)
   pub not-negative : T (not (h .t <ᶠ 0ᶠ))
 
 pub record RowFits (r : Row) : Type 0 where
@@ -59,22 +59,22 @@ pub record RowFits (r : Row) : Type 0 where
   pub v : Fits (r .v)
   pub a : Fits (r .a)
 
-zero-is : 0ᶠ ≡ fin false 0 (pos 0)
+pub zero-is : 0ᶠ ≡ fin false 0 (pos 0)
 unfolding ofBits
 zero-is = refl
 
 pub zero-fits : Fits 0ᶠ
 zero-fits = rw zero-is (unfold fits in tt)
 
-pub next-fits : (h : Phase) (r : Row) → RowFits (nextRow h r)
+pub next-fits : (h : Phase) (r : Row) → PhaseFits h → RowFits (nextRow h r)
 unfolding nextRow storedIf rowAfter
-next-fits h r =
+next-fits h r g =
     let t = h .t in
     let j = h .j in
     record {
       p = add-fits binary64 (r .p) (t *ᶠ (r .v +ᶠ t *ᶠ (r .a /ᶠ 2ᶠ +ᶠ t *ᶠ j /ᶠ 6ᶠ)));
       v = add-fits binary64 (r .v) (t *ᶠ (r .a +ᶠ t *ᶠ j /ᶠ 2ᶠ));
-      a = cond-fits binary64 (h .zeroes) 0ᶠ (r .a +ᶠ t *ᶠ j) zero-fits (add-fits binary64 (r .a) (t *ᶠ j));
+      a = cond-fits binary64 (h .sets) (h .a) (r .a +ᶠ t *ᶠ j) (g .a) (add-fits binary64 (r .a) (t *ᶠ j));
     }
 
 -- ---- a finite velocity in the next row has a finite motion and phase behind it. The position need not be finite
@@ -106,7 +106,7 @@ position-before-finite h r f = add-finite binary64 (r .p) (h .t *ᶠ (r .v +ᶠ 
 pub time-not-negative : (h : Phase) → PhaseFits h → Finite (h .t) → val (h .t) .less ≡ 0
 time-not-negative h g f = not-negative binary64 (h .t) (g .t) f (rw zero-is at (g .not-negative))
 
--- ---- one phase
+-- ---- one phase. An acceleration that is set carries no error
 module _ (h : Phase) (r : Row) (s : Stateˢ) (ey ez : ℕ) (g : PhaseFits h) (k : RowFits r) (f : MotionFinite (nextRow h r)) (e : MotionError r s ey ez) where
   n : val (h .t) .less ≡ 0
   n = time-not-negative h g (before-finite h r (f .v) .1 .t)
@@ -125,11 +125,11 @@ module _ (h : Phase) (r : Row) (s : Stateˢ) (ey ez : ℕ) (g : PhaseFits h) (k 
       record {
         y = carry-y (time h) (jerk h) a₀ ((2 * (U * U)) ⊙ val (r .v)) ((2 * (U * U)) ⊙ val (rowAfter r (h .t) (h .j) .v)) (s .y) (s .z) ey ez (sizeV r h + underflowV (time h))
             (velocity-error r h (g .t) (g .j) n (k .v) (k .a) (f .v)) (e .y) (e .z);
-        z = zeroed (h .zeroes) (rowAfter r (h .t) (h .j) .a) (s .z ⊕ time h ⊙ jerk h) (ez + (sizeA r h + underflowA))
+        z = carried (h .sets) (h .a) (rowAfter r (h .t) (h .j) .a) (s .z ⊕ time h ⊙ jerk h) (ez + (sizeA r h + underflowA))
             (λ c. carry-z (time h) (jerk h) a₀ (U ⊙ val (rowAfter r (h .t) (h .j) .a)) (s .z) ez (sizeA r h + underflowA) (acceleration-error r h (g .t) (g .j) n (k .a) c) (e .z)) (f .a);
       }
     where
-      zeroed : (b : Bool) (a : Float) (w : Signed) (e : ℕ) → (Finite a → Near (2⁵⁰ ⊙ (U ⊙ val a)) (2⁵⁰ ⊙ w) e)
-          → Finite (cond b 0ᶠ a) → Near (2⁵⁰ ⊙ (U ⊙ val (cond b 0ᶠ a))) (2⁵⁰ ⊙ cond b zeroˢ w) e
-      zeroed false a w e q c = q c
-      zeroed true a w e q c = rw (zero-is, zero-value binary64 false) (record { low = omega arith; high = omega arith })
+      carried : (b : Bool) (set a : Float) (w : Signed) (e : ℕ) → (Finite a → Near (2⁵⁰ ⊙ (U ⊙ val a)) (2⁵⁰ ⊙ w) e)
+          → Finite (cond b set a) → Near (2⁵⁰ ⊙ (U ⊙ val (cond b set a))) (2⁵⁰ ⊙ cond b (U ⊙ val set) w) e
+      carried false set a w e q c = q c
+      carried true set a w e q c = record { low = omega arith; high = omega arith }

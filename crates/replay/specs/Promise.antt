@@ -1,16 +1,23 @@
 -- What is promised of the replay's end: how far it is from the target. Every whole number here is 6 × 2 ^ 4346 times what it stands for. Definitions only.
 use Prim.Native.Nat.{ℕ, _+_, _*_, _^_, _≤_, _<_}
-use mathlib.Core.Bool.{Bool}
+use mathlib.Core.Path.{_≡_}
+use mathlib.Core.Bool.{Bool, true}
 use lib.IntN.{ℤ, pos, natAbs, _-ℤ_, _*ℤ_}
+use lib.Dec.{T}
 use lib.Ieee.{Float}
-use Rattle.doubles.specs.Operators.{at}
+use Rattle.doubles.specs.Operators.{_<ᶠ_, at}
 use Rattle.doubles.specs.Exact.{exact, exactSize}
 use Rattle.doubles.specs.Value.{Finite}
 use Rattle.profile.specs.Tolerances.{pPrecision, vPrecision, aPrecision}
+use Rattle.profile.specs.Boundary.{startOf, targetOf}
+use Rattle.profile_check.specs.Check.{checked}
 use Rattle.profile.specs.declared.Profile.{Profile}
 use Rattle.profile.specs.declared.Start.{Start}
 use Rattle.profile.specs.declared.Target.{Target}
-use Rattle.replay.specs.Replay.{U, State, replayed}
+use Rattle.profile.specs.declared.Limits.{Limits}
+use Rattle.profile.specs.declared.ControlSigns.{ControlSigns}
+use Rattle.profile.specs.declared.ReachedLimits.{ReachedLimits}
+use Rattle.replay.specs.Replay.{U, State, 1e50ᶠ, storedRows, replayed}
 use Rattle.replay.specs.Allowance.{positionAllowance, velocityAllowance, accelerationAllowance}
 
 -- ---- from the scales of `exact` and of a state to 6 × 2 ^ 4346, which is 2 ^ 50 × 6 U⁴
@@ -64,3 +71,16 @@ module _ (start : Start) (target : Target) (j-max : Float) (q : Profile) (stored
     pub position : AtMostFrom (target .pf) pPrecision (positionAllowance q) (positionOf end)
     pub moving : EndsMoving
     pub finite : FinitePosition target q
+
+-- ---- what is promised of a check
+
+-- each limit that was stored is one that the replay takes: j_max is above 1e50, or none was stored
+abbrev pub Taken : (j-max : Float) (stored : ℕ → Bool) → Type 0
+Taken j-max stored = (i : ℕ) → T (stored i) → T (1e50ᶠ <ᶠ j-max)
+
+-- what it accepts ends at its target, whatever the replay's j_max, if the replay takes what it stored
+abbrev pub CheckEndsAt : Profile → ControlSigns → ReachedLimits → (set-limits : Bool) (jf : Float) → Limits → Type 0
+CheckEndsAt q signs reached set-limits jf m =
+    let c = checked q signs reached set-limits jf m in
+    let stored = storedRows set-limits reached in
+    c .ok ≡ true → (j-max : Float) → Taken j-max stored → EndsAt (startOf q) (targetOf q) j-max (c .profile) stored

@@ -17,7 +17,7 @@ returns c =
       vf = search (passes, last-fields);
       af = search (passes, last-fields);
     } in
-    λ h j-max. check-ends-at _ _ _ _ _ j-max d h
+    check-ends-at _ _ _ _ _ _ d (search passes) (search passes)
 
 pub replay-bound-spec : {M : Type 1} → statement M
 replay-bound-spec = tie.close (tie.spec returns)
