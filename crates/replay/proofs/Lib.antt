@@ -12,3 +12,4 @@ pub mod ReplayBound
 pub mod CheckedReplay
 pub mod Move2
 pub mod StoredLimits
+pub mod WorkedNumbers
