@@ -116,7 +116,9 @@ module _ (q : Profile) (set-limits : Bool) (jf : Float) (m : Limits) (d : Profil
         }
       where
         a-as-set : AcceptedMotion q set-limits jf m → (i : ℕ) → i < 7 → at (q .a) (suc i) ≡ nextRow (phaseAt q (takenBy j-max stored) i) (rowAt q i) .a
-        a-as-set s i l = set-as (1e50ᶠ <ᶠ j-max) (stored (suc i)) (eqb i 2 && clearsRow3 (q .limits)) (at (q .a) (suc i)) _ (k .taken (suc i)) (λ n. s .a-made i l ∙ kept m _ set-limits (q .limits) i l n)
+        a-as-set s i l =
+            set-as (1e50ᶠ <ᶠ j-max) (stored (suc i)) (eqb i 2 && clearsRow3 (q .limits)) (at (q .a) (suc i)) _
+            (k .taken (suc i)) (λ n. s .a-made i l ∙ kept m _ set-limits (q .limits) i l n)
 
     velocity-checked : AcceptedMotion q set-limits jf m → VelocityChecked tMax q (takenBy j-max stored)
     velocity-checked s =

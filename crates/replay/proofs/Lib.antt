@@ -10,6 +10,7 @@ pub mod IntegerReplay
 pub mod TargetDistance
 pub mod ReplayBound
 pub mod CheckedReplay
+pub mod ExampleProfiles
 pub mod Move2
 pub mod StoredLimits
 pub mod WorkedNumbers

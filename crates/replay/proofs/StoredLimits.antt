@@ -5,8 +5,7 @@ use Prim.Native.Nat.{ℕ, zero, suc, _+_, _*_, _^_, _<_}
 use native.Mathlib.Nat.{not-le-of-lt}
 use mathlib.Core.Bool.{Bool, true, false, _&&_}
 use mathlib.Core.List.{List, [], _∷_}
-use lib.ListN.{replicate}
-use lib.IntN.{ℤ, pos, negℤ}
+use lib.IntN.{pos, negℤ}
 use lib.Dec.{T, lit<}
 use lib.Ieee.{Float, binary64, neg, fits, ofBits}
 use Rattle.doubles.specs.Operators.{_<ᶠ_}
@@ -24,7 +23,6 @@ use Rattle.profile.specs.declared.Start.{Start}
 use Rattle.profile.specs.declared.Target.{Target}
 use Rattle.profile.specs.declared.Limits.{Limits}
 use Rattle.profile_check.specs.declared.Checked.{Checked}
-use Rattle.profile.specs.declared.Direction.the-variants.{UP}
 use Rattle.profile.specs.declared.ControlSigns.the-variants.{UDDU}
 use Rattle.profile.specs.declared.ReachedLimits.{ReachedLimits}
 use Rattle.profile.specs.declared.ReachedLimits.the-variants.{Acc1, Acc0Acc1}
@@ -34,7 +32,7 @@ use Rattle.replay.specs.Allowance.{sumTo, underflow, Sa, Sv, Sp, positio
 use Rattle.replay.specs.Promise.{AtMostFrom, positionOf, EndsAt}
 use Rattle.replay.proofs.IntegerReplay.{takenBy}
 use Rattle.replay.proofs.CheckedReplay.{ProfileFits, check-ends-at}
-use Rattle.replay.proofs.Move2.{fromRest, -1ᶠ}
+use Rattle.replay.proofs.ExampleProfiles.{zeros, ofNumbers, fromRest, -1ᶠ}
 
 -- ---- 1e50 is the double nearest to 10 ^ 50, which lies between the middles to its neighbours
 abbrev before1e50 : Float
@@ -72,26 +70,6 @@ wideLimits = record { «v_max» = 4ᶠ; «v_min» = neg 4ᶠ; «a_max» = 3ᶠ; 
 wide-fits : Fits (wideLimits .«a_max») × Fits (wideLimits .«a_min»)
 unfolding wideLimits ofBits fits neg
 wide-fits = (tt, tt)
-
--- what a check fills in
-unfoldable filledIn : (t sums a v p : List Float) → Target → ReachedLimits → Profile
-filledIn t sums a v p target reached =
-    record {
-      t = t;
-      «t_sum» = sums;
-      j = replicate 7 0ᶠ;
-      a = a;
-      v = v;
-      p = p;
-      brake = 0ᶠ;
-      accel = 0ᶠ;
-      pf = target .pf;
-      vf = target .vf;
-      af = target .af;
-      limits = reached;
-      direction = UP;
-      «control_signs» = UDDU;
-    }
 
 -- what is shown of each: q is accepted and filled in. Its replay ends at the target for each j_max above 1e50, and for no other, where it ends where it started
 abbrev nowhere : State
@@ -136,18 +114,19 @@ outerTarget = record { pf = 6ᶠ; vf = 0ᶠ; af = -1ᶠ }
 pub outerPlan : Profile
 outerPlan =
     let 1½ᶠ = ofBits binary64 0x3ff8_0000_0000_0000 in
-    filledIn outerTimes
+    ofNumbers Acc0Acc1 outerTarget outerTimes
     (0ᶠ ∷ 1ᶠ ∷ 1ᶠ ∷ 1ᶠ ∷ 1ᶠ ∷ 4ᶠ ∷ 4ᶠ ∷ [])
+    (zeros 7)
     (0ᶠ ∷ 3ᶠ ∷ 3ᶠ ∷ 0ᶠ ∷ 0ᶠ ∷ -1ᶠ ∷ -1ᶠ ∷ -1ᶠ ∷ [])
     (0ᶠ ∷ 0ᶠ ∷ 3ᶠ ∷ 3ᶠ ∷ 3ᶠ ∷ 3ᶠ ∷ 0ᶠ ∷ 0ᶠ ∷ [])
-    (0ᶠ ∷ 0ᶠ ∷ 1½ᶠ ∷ 1½ᶠ ∷ 1½ᶠ ∷ 1½ᶠ ∷ 6ᶠ ∷ 6ᶠ ∷ []) outerTarget Acc0Acc1
+    (0ᶠ ∷ 0ᶠ ∷ 1½ᶠ ∷ 1½ᶠ ∷ 1½ᶠ ∷ 1½ᶠ ∷ 6ᶠ ∷ 6ᶠ ∷ [])
 
 outer-accepted : checked (fromRest outerTimes outerTarget) UDDU Acc0Acc1 true 1ᶠ wideLimits ≡ record { ok = true; profile = outerPlan }
-unfolding outerPlan filledIn fromRest wideLimits checked accepted timesPass phasesPass sumPasses zerosPass zeroPasses endPasses rowsPass filled rowsOf outerRow middleRow storedIf rowAfter jerks jerkIf sums boundsOf directionOf absᶠ ofBits lib.Ieee.lt lib.Ieee.le lib.Ieee.add lib.Ieee.sub lib.Ieee.mul lib.Ieee.div neg
+unfolding outerPlan ofNumbers fromRest wideLimits checked accepted timesPass phasesPass sumPasses zerosPass zeroPasses endPasses rowsPass filled rowsOf outerRow middleRow storedIf rowAfter jerks jerkIf sums boundsOf directionOf absᶠ ofBits lib.Ieee.lt lib.Ieee.le lib.Ieee.add lib.Ieee.sub lib.Ieee.mul lib.Ieee.div neg
 outer-accepted = refl
 
 pub outer : StoredIn (fromRest outerTimes outerTarget) Acc0Acc1 outerPlan (record { x = pos (6 * (6 * (U * U * U * U))); y = pos 0; z = negℤ (pos (U * U)) })
-unfolding positionAllowance underflow Rattle.replay.specs.Allowance.T Sa Sv Sp sumTo replayed atStart phase zeroedIf replacedIf storedRows scale exact outerPlan filledIn fromRest ofBits fits lib.Ieee.lt neg
+unfolding positionAllowance underflow Rattle.replay.specs.Allowance.T Sa Sv Sp sumTo replayed atStart phase zeroedIf replacedIf storedRows scale exact outerPlan ofNumbers fromRest ofBits fits lib.Ieee.lt neg
 outer =
     stored-in _ Acc0Acc1 outerPlan _ (record { start = record { p = tt; v = tt; a = tt }; times = each-phase _ tt tt tt tt tt tt tt; jerks = λ i l. tt; pf = tt; vf = tt; af = tt })
     outer-accepted refl refl (not-le-of-lt (lit< tt))
@@ -165,18 +144,19 @@ middleTarget = record { pf = -2ᶠ; vf = -2ᶠ; af = -1ᶠ }
 pub middlePlan : Profile
 middlePlan =
     let -½ᶠ = neg ½ᶠ in
-    filledIn middleTimes
+    ofNumbers Acc1 middleTarget middleTimes
     (0ᶠ ∷ 0ᶠ ∷ 0ᶠ ∷ 1ᶠ ∷ 1ᶠ ∷ 2ᶠ ∷ 2ᶠ ∷ [])
+    (zeros 7)
     (0ᶠ ∷ 0ᶠ ∷ 0ᶠ ∷ -1ᶠ ∷ -1ᶠ ∷ -1ᶠ ∷ -1ᶠ ∷ -1ᶠ ∷ [])
     (0ᶠ ∷ 0ᶠ ∷ 0ᶠ ∷ 0ᶠ ∷ -1ᶠ ∷ -1ᶠ ∷ -2ᶠ ∷ -2ᶠ ∷ [])
-    (0ᶠ ∷ 0ᶠ ∷ 0ᶠ ∷ 0ᶠ ∷ -½ᶠ ∷ -½ᶠ ∷ -2ᶠ ∷ -2ᶠ ∷ []) middleTarget Acc1
+    (0ᶠ ∷ 0ᶠ ∷ 0ᶠ ∷ 0ᶠ ∷ -½ᶠ ∷ -½ᶠ ∷ -2ᶠ ∷ -2ᶠ ∷ [])
 
 middle-accepted : checked (fromRest middleTimes middleTarget) UDDU Acc1 true 1ᶠ wideLimits ≡ record { ok = true; profile = middlePlan }
-unfolding middlePlan filledIn fromRest wideLimits checked accepted timesPass phasesPass sumPasses zerosPass zeroPasses endPasses rowsPass filled rowsOf outerRow middleRow storedIf rowAfter jerks jerkIf sums boundsOf directionOf absᶠ ofBits lib.Ieee.lt lib.Ieee.le lib.Ieee.add lib.Ieee.sub lib.Ieee.mul lib.Ieee.div neg
+unfolding middlePlan ofNumbers fromRest wideLimits checked accepted timesPass phasesPass sumPasses zerosPass zeroPasses endPasses rowsPass filled rowsOf outerRow middleRow storedIf rowAfter jerks jerkIf sums boundsOf directionOf absᶠ ofBits lib.Ieee.lt lib.Ieee.le lib.Ieee.add lib.Ieee.sub lib.Ieee.mul lib.Ieee.div neg
 middle-accepted = refl
 
 pub middle : StoredIn (fromRest middleTimes middleTarget) Acc1 middlePlan (record { x = negℤ (pos (2 * (6 * (U * U * U * U)))); y = negℤ (pos (2 * (2 * (U * U * U)))); z = negℤ (pos (U * U)) })
-unfolding positionAllowance underflow Rattle.replay.specs.Allowance.T Sa Sv Sp sumTo replayed atStart phase zeroedIf replacedIf storedRows scale exact middlePlan filledIn fromRest ofBits fits lib.Ieee.lt neg
+unfolding positionAllowance underflow Rattle.replay.specs.Allowance.T Sa Sv Sp sumTo replayed atStart phase zeroedIf replacedIf storedRows scale exact middlePlan ofNumbers fromRest ofBits fits lib.Ieee.lt neg
 middle =
     stored-in _ Acc1 middlePlan _ (record { start = record { p = tt; v = tt; a = tt }; times = each-phase _ tt tt tt tt tt tt tt; jerks = λ i l. tt; pf = tt; vf = tt; af = tt })
     middle-accepted refl refl (not-le-of-lt (lit< tt))

@@ -4,24 +4,22 @@ use mathlib.Core.Path.{_≡_, refl}
 use Prim.Native.Nat.{ℕ, zero, suc, _+_, _-_, _*_, _/_, _^_, _<_}
 use native.Mathlib.Nat.{not-le-of-lt, le-of-suc-le-suc}
 use mathlib.Core.Bool.{Bool, true, false}
-use mathlib.Core.List.{List, [], _∷_, map}
-use lib.ListN.{replicate}
+use mathlib.Core.List.{List, [], _∷_, _++_, map}
 use lib.IntN.{ℤ, pos, negsuc, negℤ}
 use lib.Dec.{eqb, lit<, lit≤}
-use lib.Ieee.{Float, fin, binary64, round, add, sub, neg, ofInt, ofBits}
+use lib.Ieee.{Float, inf, fin, binary64, round, add, sub, neg, ofInt, ofBits}
 use Rattle.doubles.specs.Operators.{_+ᶠ_, _-ᶠ_, -ᶠ_}
+use Rattle.doubles.specs.Constants.{0ᶠ, 1ᶠ}
 use Rattle.doubles.specs.Exact.{scale, exact}
 use Rattle.profile.specs.Tolerances.{pPrecision, aPrecision}
 use Rattle.profile.specs.Boundary.{startOf}
 use Rattle.profile.specs.declared.Profile.{Profile}
-use Rattle.profile.specs.declared.Direction.the-variants.{UP}
-use Rattle.profile.specs.declared.ControlSigns.the-variants.{UDDU}
-use Rattle.profile.specs.declared.ReachedLimits.{ReachedLimits}
 use Rattle.profile.specs.declared.ReachedLimits.the-variants.{Vel, None}
 use Rattle.profile_check.proofs.Accepted.{each-phase}
 use Rattle.replay.specs.Replay.{U, atStart, phase, zeroedIf, replacedIf, replayed}
 use Rattle.replay.specs.Allowance.{sumTo, underflow, T, Sa, Sv, Sp, positionAllowance, velocityAllowance, accelerationAllowance}
 use Rattle.replay.specs.Promise.{EndsAt}
+use Rattle.replay.proofs.ExampleProfiles.{zeros, ofNumbers}
 use Rattle.replay.proofs.StoredLimits.{at1e50, past1e50}
 
 -- whole numbers as doubles
@@ -31,31 +29,13 @@ n k = ofInt binary64 (pos k)
 abbrev -n : ℕ → Float
 -n k = neg (n k)
 
--- a profile of these limits, times, jerks and rows. No check made it: the definitions are of any
-unfoldable pub ofNumbers : ReachedLimits → (t j a v p : List Float) → Profile
-ofNumbers reached t j a v p =
-    record {
-      t = t;
-      «t_sum» = replicate 7 (n 0);
-      j = j;
-      a = a;
-      v = v;
-      p = p;
-      brake = n 0;
-      accel = n 0;
-      pf = n 0;
-      vf = n 0;
-      af = n 0;
-      limits = reached;
-      direction = UP;
-      «control_signs» = UDDU;
-    }
-
--- ---- no two numbers of this one have the same size. The times are multiples of 6, so that halves and sixths are whole
+-- ---- a profile no two of whose numbers have the same size. No check made it: the definitions are of any profile. The times are multiples of 6, so that halves and
+-- sixths are whole
 unfoldable pub telling : Profile
 telling =
-    ofNumbers Vel
+    ofNumbers Vel (record { pf = 0ᶠ; vf = 0ᶠ; af = 0ᶠ })
     (n 6 ∷ n 12 ∷ n 18 ∷ n 30 ∷ n 42 ∷ n 66 ∷ n 78 ∷ [])
+    (zeros 7)
     (n 2 ∷ -n 3 ∷ n 5 ∷ -n 7 ∷ n 11 ∷ -n 13 ∷ n 17 ∷ [])
     (n 19 ∷ -n 23 ∷ n 29 ∷ n 31 ∷ -n 37 ∷ n 41 ∷ n 43 ∷ -n 47 ∷ [])
     (n 53 ∷ -n 59 ∷ n 61 ∷ n 67 ∷ -n 71 ∷ n 73 ∷ n 79 ∷ -n 83 ∷ [])
@@ -120,24 +100,14 @@ z k = pos (U * U * k)
 abbrev -z : ℕ → ℤ
 -z k = negℤ (z k)
 
--- up to 1e50, where a limit is stored in every row, and above, where in none: only row 3's zero is put in
-left-out : accelerations at1e50 (λ i. true) ≡ z 31 ∷ -z 5 ∷ z 0 ∷ -z 210 ∷ z 252 ∷ -z 606 ∷ z 720 ∷ []
+-- up to 1e50, where a limit is stored in every row: only row 3's zero is put in; so it is above, where none is stored. Above, where one is stored in every row: after
+-- phase i row i + 1's, also in place of row 3's zero; and where one is stored in row 3 alone
+taken-worked : (accelerations at1e50 (λ i. true) ≡ z 31 ∷ -z 5 ∷ z 0 ∷ -z 210 ∷ z 252 ∷ -z 606 ∷ z 720 ∷ [])
+    × (accelerations past1e50 (λ i. false) ≡ z 31 ∷ -z 5 ∷ z 0 ∷ -z 210 ∷ z 252 ∷ -z 606 ∷ z 720 ∷ [])
+    × (accelerations past1e50 (λ i. true) ≡ -z 23 ∷ z 29 ∷ z 31 ∷ -z 37 ∷ z 41 ∷ z 43 ∷ -z 47 ∷ [])
+    × (accelerations past1e50 (λ i. eqb i 3) ≡ z 31 ∷ -z 5 ∷ z 31 ∷ -z 179 ∷ z 283 ∷ -z 575 ∷ z 751 ∷ [])
 unfolding replayed atStart phase zeroedIf replacedIf telling ofNumbers scale exact ofInt ofBits round neg lib.Ieee.lt
-left-out = refl
-
-none-stored : accelerations past1e50 (λ i. false) ≡ z 31 ∷ -z 5 ∷ z 0 ∷ -z 210 ∷ z 252 ∷ -z 606 ∷ z 720 ∷ []
-unfolding replayed atStart phase zeroedIf replacedIf telling ofNumbers scale exact ofInt ofBits round neg lib.Ieee.lt
-none-stored = refl
-
--- above 1e50, where one is stored in every row: after phase i row i + 1's, also in place of row 3's zero
-every-row : accelerations past1e50 (λ i. true) ≡ -z 23 ∷ z 29 ∷ z 31 ∷ -z 37 ∷ z 41 ∷ z 43 ∷ -z 47 ∷ []
-unfolding replayed atStart phase zeroedIf replacedIf telling ofNumbers scale exact ofInt ofBits round neg lib.Ieee.lt
-every-row = refl
-
--- where one is stored in row 3 alone
-row-3 : accelerations past1e50 (λ i. eqb i 3) ≡ z 31 ∷ -z 5 ∷ z 31 ∷ -z 179 ∷ z 283 ∷ -z 575 ∷ z 751 ∷ []
-unfolding replayed atStart phase zeroedIf replacedIf telling ofNumbers scale exact ofInt ofBits round neg lib.Ieee.lt
-row-3 = refl
+taken-worked = (refl, refl, refl, refl)
 
 -- ---- the border of the promise. With no time at all the replay ends where it started, and the rows' sums are those of their sizes
 -- 2 ^ -k
@@ -151,13 +121,14 @@ far = pPrecision +ᶠ 2⁻ 76
 abbrev farA : Float
 farA = aPrecision +ᶠ 2⁻ 83
 
--- the rows' sizes are 2 ^ -26, 2 ^ -26 and 2 ^ -33 together
+-- a row 1 that makes the rows' sizes 2 ^ -26, 2 ^ -26 and 2 ^ -33 together
 unfoldable pub resting : Profile
 resting =
-    let zeros = replicate 6 (n 0) in
-    ofNumbers None (replicate 7 (n 0)) (replicate 7 (n 0)) (farA ∷ (2⁻ 33 -ᶠ farA) ∷ zeros) (far ∷ (2⁻ 26 -ᶠ far) ∷ zeros) (far ∷ (2⁻ 26 -ᶠ far) ∷ zeros)
+    let p = far ∷ (2⁻ 26 -ᶠ far) ∷ zeros 6 in
+    let a = farA ∷ (2⁻ 33 -ᶠ farA) ∷ zeros 6 in
+    ofNumbers None (record { pf = 0ᶠ; vf = 0ᶠ; af = 0ᶠ }) (zeros 7) (zeros 7) (zeros 7) a p p
 
--- so what is allowed is 1e-8 + 2 ^ -76 + 2 ^ -800, the same, and 1e-10 + 2 ^ -83 + 2 ^ -800: exactly what the end is from -(2 ^ -800)
+-- so 1e-8 + 2 ^ -76 + 2 ^ -800 is allowed, the same, and 1e-10 + 2 ^ -83 + 2 ^ -800: exactly what the end is from -(2 ^ -800)
 abbrev edge : Float
 edge = -ᶠ 2⁻ 800
 
@@ -165,14 +136,14 @@ edge = -ᶠ 2⁻ 800
 abbrev over : Float
 over = -ᶠ (2⁻ 800 +ᶠ 2⁻ 852)
 
-abbrev EndsFrom : (pf vf af : Float) → Type 0
-EndsFrom pf vf af = EndsAt (startOf resting) (record { pf = pf; vf = vf; af = af }) (n 1) resting (λ i. false)
+abbrev Ends : Profile → (pf vf af : Float) → Type 0
+Ends q pf vf af = EndsAt (startOf q) (record { pf = pf; vf = vf; af = af }) 1ᶠ q (λ i. false)
 
 each-row : (P : ℕ → Type 0) → P 0 → P 1 → P 2 → P 3 → P 4 → P 5 → P 6 → P 7 → (i : ℕ) → i < 8 → P i
 each-row P a b c d e f g h zero l = a
 each-row P a b c d e f g h (suc i) l = each-phase (λ i. P (suc i)) b c d e f g h i (le-of-suc-le-suc l)
 
-pub at-the-edge : EndsFrom edge edge edge
+pub at-the-edge : Ends resting edge edge edge
 unfolding positionAllowance velocityAllowance accelerationAllowance underflow T Sa Sv Sp sumTo replayed atStart phase zeroedIf replacedIf resting ofNumbers scale exact ofInt ofBits round add sub neg lib.Ieee.lt
 at-the-edge =
     record {
@@ -180,19 +151,52 @@ at-the-edge =
       moving = record {
         velocity = lit≤ tt;
         acceleration = lit≤ tt;
-        finite = record { t = each-phase _ tt tt tt tt tt tt tt; j = each-phase _ tt tt tt tt tt tt tt; a = each-row _ tt tt tt tt tt tt tt tt; v = each-row _ tt tt tt tt tt tt tt tt; vf = tt; af = tt };
+        finite = record {
+          t = each-phase _ tt tt tt tt tt tt tt;
+          j = each-phase _ tt tt tt tt tt tt tt;
+          a = each-row _ tt tt tt tt tt tt tt tt;
+          v = each-row _ tt tt tt tt tt tt tt tt;
+          vf = tt;
+          af = tt;
+        };
       };
       finite = record { p = each-row _ tt tt tt tt tt tt tt tt; pf = tt };
     }
 
-pub position-over : EndsFrom over edge edge → ⊥
+pub position-over : Ends resting over edge edge → ⊥
 unfolding positionAllowance underflow T Sa Sv Sp sumTo replayed atStart phase zeroedIf replacedIf resting ofNumbers scale exact ofInt ofBits round add sub neg lib.Ieee.lt
 position-over e = not-le-of-lt (lit< tt) (e .position)
 
-pub velocity-over : EndsFrom edge over edge → ⊥
+pub velocity-over : Ends resting edge over edge → ⊥
 unfolding velocityAllowance underflow T Sa Sv sumTo replayed atStart phase zeroedIf replacedIf resting ofNumbers scale exact ofInt ofBits round add sub neg lib.Ieee.lt
 velocity-over e = not-le-of-lt (lit< tt) (e .moving .velocity)
 
-pub acceleration-over : EndsFrom edge edge over → ⊥
+pub acceleration-over : Ends resting edge edge over → ⊥
 unfolding accelerationAllowance underflow Sa sumTo replayed atStart phase zeroedIf replacedIf resting ofNumbers scale exact ofInt ofBits round add sub neg lib.Ieee.lt
 acceleration-over e = not-le-of-lt (lit< tt) (e .moving .acceleration)
+
+-- ---- all that is read is finite: an infinity in the last place of a list, or in the target, breaks the promise
+abbrev ∞ : Float
+∞ = inf false
+
+-- zeros but for the last number of the times, jerks, accelerations, velocities or positions
+abbrev lastly : (t j a v p : Float) → Profile
+lastly t j a v p =
+    ofNumbers None (record { pf = 0ᶠ; vf = 0ᶠ; af = 0ᶠ }) (zeros 6 ++ (t ∷ [])) (zeros 7) (zeros 6 ++ (j ∷ [])) (zeros 7 ++ (a ∷ [])) (zeros 7 ++ (v ∷ [])) (zeros 7 ++ (p ∷ []))
+
+pub infinite-row : (Ends (lastly ∞ 0ᶠ 0ᶠ 0ᶠ 0ᶠ) 0ᶠ 0ᶠ 0ᶠ → ⊥)
+    × (Ends (lastly 0ᶠ ∞ 0ᶠ 0ᶠ 0ᶠ) 0ᶠ 0ᶠ 0ᶠ → ⊥)
+    × (Ends (lastly 0ᶠ 0ᶠ ∞ 0ᶠ 0ᶠ) 0ᶠ 0ᶠ 0ᶠ → ⊥)
+    × (Ends (lastly 0ᶠ 0ᶠ 0ᶠ ∞ 0ᶠ) 0ᶠ 0ᶠ 0ᶠ → ⊥)
+    × (Ends (lastly 0ᶠ 0ᶠ 0ᶠ 0ᶠ ∞) 0ᶠ 0ᶠ 0ᶠ → ⊥)
+unfolding ofNumbers
+infinite-row = (
+  λ e. e .moving .finite .t 6 (lit< tt),
+  λ e. e .moving .finite .j 6 (lit< tt),
+  λ e. e .moving .finite .a 7 (lit< tt),
+  λ e. e .moving .finite .v 7 (lit< tt),
+  λ e. e .finite .p 7 (lit< tt),
+)
+
+pub infinite-target : (q : Profile) → (Ends q ∞ 0ᶠ 0ᶠ → ⊥) × (Ends q 0ᶠ ∞ 0ᶠ → ⊥) × (Ends q 0ᶠ 0ᶠ ∞ → ⊥)
+infinite-target q = (λ e. e .finite .pf, λ e. e .moving .finite .vf, λ e. e .moving .finite .af)
