@@ -62,3 +62,8 @@ module _ (brake accel : Float) (x : Try) where
   pub accel-of : profileOf brake accel x .accel ≡ accel
   unfolding profileOf filled withBoundary
   accel-of = refl
+
+  -- and the check makes the same profile of it again
+  pub checked-again : passes x ≡ true → checked (profileOf brake accel x) UDDU (profileOf brake accel x .limits) false (x .jf) (x .limits) ≡ record { ok = true; profile = profileOf brake accel x }
+  unfolding profileOf filled withBoundary
+  checked-again h = checked-yes x (profileOf brake accel x) start-of target-of refl h

@@ -1,9 +1,12 @@
 -- What `add_profile` keeps. Assumes nothing.
 use Prim.Native.Nat.{ℕ, _+_, _<_, _≤_}
 use mathlib.Core.Path.{_≡_, refl, sym, ap, _∙_, subst}
+use mathlib.Core.Bool.{Bool, true, false}
 use mathlib.Core.Logic.{_⊎_, inl, inr, ⊎-elim, _≢_}
 use native.Mathlib.Nat.{eq-or-lt-of-le, le-of-eq}
 use native.Mathlib.Omega.{arith}
+use borrow.Author.Tests.{ltb-true, ltb-false}
+use lib.Dec.{ltb}
 use lib.ListN.{length, getD, set, length-set}
 use lib.Seq.{getD-set-same, getD-set-other}
 use Rattle.profile.specs.Boundary.{emptyProfile, withBoundary, boundaryFrom}
@@ -92,6 +95,15 @@ module _ (c : Candidates) (q : Profile) where
 pub added-sized : (c : Candidates) (x : Try) → Sized c → Sized (added c x)
 unfolding added
 added-sized c x s = stored-sized c (made c x) s
+
+-- ---- and at least one
+pub added-counts : (c : Candidates) (x : Try) → added c x .«current_index» ≡ 0 → ⊥
+unfolding added
+added-counts c x h = by (ltb (c .«current_index») 5) refl
+  where
+    by : (b : Bool) → ltb (c .«current_index») 5 ≡ b → ⊥
+    by true e = omega (arith, index-below c (made c x) (ltb-true (c .«current_index») 5 e))
+    by false e = omega (arith, ltb-false (c .«current_index») 5 e, index-above c (made c x) (ltb-false (c .«current_index») 5 e))
 
 -- ---- what holds of each profile that counts, and of the one that is added, holds of each that counts then
 pub added-counted : (P : Profile → Type 0) (c : Candidates) (x : Try) → Sized c → Counted P c → P (made c x) → Counted P (added c x)

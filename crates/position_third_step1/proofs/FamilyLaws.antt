@@ -3,6 +3,7 @@ use Prim.Native.Nat.{ℕ, suc, _+_, _≤_}
 use mathlib.Core.Path.{_≡_, refl, _∙_}
 use mathlib.Core.Bool.{Bool, true, false, cond, not, true≢false, false≢true}
 use mathlib.Core.List.{List, [], _∷_}
+use mathlib.Core.Logic.{_↔_}
 use native.Mathlib.Nat.{zero-add, suc-add}
 use native.Mathlib.Omega.{arith}
 use lib.Ieee.{Float}
@@ -16,15 +17,15 @@ use Rattle.profile.specs.declared.Target.{Target}
 use Rattle.profile.specs.declared.Limits.{Limits}
 use Rattle.profile.specs.declared.ReachedLimits.{ReachedLimits}
 use Rattle.profile_check.specs.declared.Checked.{Checked}
-use Rattle.trees.specs.Tree.{run, AtMost}
+use Rattle.trees.specs.Tree.{run, AtMost, AllNo}
 use Rattle.trees.specs.InTurn.{Bounded, none, one}
-use Rattle.trees.proofs.InTurnLaws.{finish-keeps, finish-related, in-turn-at-most, bounded-more, bounded-le}
+use Rattle.trees.proofs.InTurnLaws.{finish-keeps, holds-after-no, finish-related, in-turn-at-most, bounded-more, bounded-le}
 use Rattle.candidates.specs.Try.{Try, passes}
 use Rattle.candidates.specs.List.{added}
 use Rattle.candidates.specs.Counted.{AcceptedOf, SameCounted, Sound}
 use Rattle.candidates.specs.declared.Candidates.{Candidates}
 use Rattle.candidates.proofs.CheckLaws.{brake-of, accel-of}
-use Rattle.candidates.proofs.CountLaws.{added-same}
+use Rattle.candidates.proofs.CountLaws.{added-counts, added-same}
 use Rattle.candidates.proofs.BoundaryLaws.{added-sound}
 use Rattle.phase_times.specs.TimeAcc0Acc1.{acc0Acc1Radicand, acc0Acc1H1, acc0Acc1H2, acc0Acc1H3, admitsAcc0Acc1Solution2, admitsAcc0Acc1Solution1}
 use Rattle.phase_times.specs.TimeAllSingleStep.{changesAcceleration, startsAccelerated, startsMoving, startsAtTarget, hasPhase3, timesSingleStepSolution1, timesSingleStepSolution2}
@@ -52,6 +53,10 @@ found-sound {G} {start} {target} {brake} {accel} stop c of b s =
     finish-keeps passes added
     (λ d x w yes (h : Sound G start target brake accel d). added-sound d x (h .ready) (w .start-is) (w .target-is) (h .counted) (of x w) yes)
     stop c b s
+
+-- nothing counts at its end exactly where nothing did before it and no try is accepted
+pub none-found : (stop : Bool) (c : Candidates) (xs : List Try) → (found (tries stop c xs) .«current_index» ≡ 0) ↔ ((c .«current_index» ≡ 0) × AllNo passes (tries stop c xs))
+none-found stop c xs = holds-after-no passes added (λ d. d .«current_index» ≡ 0) added-counts stop c xs
 
 -- what it adds depends on no slot that doesn't count
 pub found-same : (stop : Bool) (c d : Candidates) (xs : List Try) → SameCounted c d → SameCounted (found (tries stop c xs)) (found (tries stop d xs))
@@ -159,3 +164,12 @@ module _ (q : Profile) (start : Start) (target : Target) (k : Constants) (m : Li
 
   pub single-step-refused : run passes (timeAllSingleStep q start target k m) .ok ≡ false → run passes (timeAllSingleStep q start target k m) .profile ≡ q
   single-step-refused = finish-keeps passes acceptance {P = Answered} accepted-answered true (refusal q) single-step-bounded refused-answered .no
+
+  -- it says no exactly where no try is accepted
+  pub single-step-none : (run passes (timeAllSingleStep q start target k m) .ok ≡ false) ↔ AllNo passes (timeAllSingleStep q start target k m)
+  single-step-none =
+      let e = holds-after-no passes acceptance (λ d. d .ok ≡ false) accepts true (refusal q) (singleStepTries start target k m) in
+      (λ h. e .0 h .1, λ h. e .1 (refl, h))
+    where
+      accepts : (d : Checked) (x : Try) → acceptance d x .ok ≡ false → ⊥
+      accepts d x = unfold acceptance in true≢false

@@ -2,3 +2,4 @@
 pub mod TryLaws
 pub mod FamilyLaws
 pub mod RootLaws
+pub mod OrderLaws

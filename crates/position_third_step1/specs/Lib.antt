@@ -5,3 +5,4 @@ pub mod TimeAcc0Acc1
 pub mod TwoStep
 pub mod TimeAllNoneAcc0Acc1
 pub mod TimeAllSingleStep
+pub mod Order

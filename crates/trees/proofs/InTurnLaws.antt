@@ -1,10 +1,11 @@
 -- Laws of questions asked in turn. Assumes nothing.
 use Prim.Native.Nat.{ℕ, zero, suc, _≤_}
 use mathlib.Core.Path.{_≡_, refl, sym, ap, _∙_}
-use mathlib.Core.Bool.{Bool, true, false}
+use mathlib.Core.Bool.{Bool, true, false, true≢false}
 use mathlib.Core.List.{List, [], _∷_}
+use mathlib.Core.Logic.{_↔_}
 use native.Mathlib.Omega.{arith}
-use Rattle.trees.specs.Tree.{Tree, done, ask, run, after, AtMost, ended, asking}
+use Rattle.trees.specs.Tree.{Tree, done, ask, run, after, questions, AtMost, ended, asking, AllNo}
 use Rattle.trees.proofs.TreeLaws.{run-after}
 use Rattle.trees.specs.InTurn.{answered, inTurn, Bounded, none, one}
 
@@ -57,6 +58,22 @@ module _ {Q S : Type 0} (answer : Q → Bool) (add : S → Q → S) where
   finish-keeps keeps stop s (one {q} {qs} g gs) p =
       answered-keeps stop (answer q) s q _ p (λ h. keeps s q g h p) (λ s′ p′. finish-keeps keeps stop s′ gs p′)
 
+  -- P holds of no state to which a yes has added
+  module _ (P : S → Type 0) (never : (s : S) (q : Q) → P (add s q) → ⊥) where
+    answered-ends : (stop yes : Bool) (s : S) (q : Q) (rest : S → Tree Q Bool S) → ((s′ : S) → P (run answer (rest s′)) ↔ (P s′ × AllNo answer (rest s′))) → P (run answer (answered add stop yes s q rest)) ↔ (P s × (yes ≡ false) × AllNo answer (answered add stop yes s q rest))
+    unfolding answered run
+    answered-ends stop false s q rest h = (λ p. (h s .0 p .0, refl, h s .0 p .1), λ z. h s .1 (z .0, z .2))
+    answered-ends false true s q rest h = (λ p. absurd (never s q (h (add s q) .0 p .0)), λ z. absurd (true≢false (z .1)))
+    answered-ends true true s q rest h = (λ p. absurd (never s q p), λ z. absurd (true≢false (z .1)))
+
+    -- it holds at the end exactly where it does at first and every answer is no
+    pub holds-after-no : (stop : Bool) (s : S) (qs : List Q) → P (finish stop s qs) ↔ (P s × AllNo answer (inTurn add stop s qs))
+    unfolding run inTurn
+    holds-after-no stop s [] = (λ p. (p, tt), λ z. z .0)
+    holds-after-no stop s (q ∷ qs) =
+        let e = answered-ends stop (answer q) s q _ (λ s′. holds-after-no stop s′ qs) in
+        (λ p. (e .0 p .0, (e .0 p .1, e .0 p .2)), λ z. e .1 (z .0, z .1 .0, z .1 .1))
+
   answered-related : (R : S → S → Type 0) → ((s s′ : S) (q : Q) → R s s′ → R (add s q) (add s′ q)) → (stop yes : Bool) (s s′ : S) (q : Q) (rest : S → Tree Q Bool S) → R s s′ → ((z z′ : S) → R z z′ → R (run answer (rest z)) (run answer (rest z′))) → R (run answer (answered add stop yes s q rest)) (run answer (answered add stop yes s′ q rest))
   unfolding answered run
   answered-related R keeps stop false s s′ q rest r h = h s s′ r
@@ -82,6 +99,17 @@ module _ {Q S : Type 0} (add : S → Q → S) where
   unfolding inTurn
   in-turn-at-most stop s none = ended
   in-turn-at-most stop s (one {q} {qs} g gs) = asking (λ yes. answered-at-most stop yes s q _ (λ s′. in-turn-at-most stop s′ gs))
+
+  -- where every answer is no, all of them are asked, in their order, and the state stays
+  pub asks-each : (stop : Bool) (s : S) (qs : List Q) → questions (λ (q : Q). false) (inTurn add stop s qs) ≡ qs
+  unfolding questions inTurn answered
+  asks-each stop s [] = refl
+  asks-each stop s (q ∷ qs) = ap (λ (rest : List Q). q ∷ rest) (asks-each stop s qs)
+
+  pub stays : (stop : Bool) (s : S) (qs : List Q) → run (λ (q : Q). false) (inTurn add stop s qs) ≡ s
+  unfolding run inTurn answered
+  stays stop s [] = refl
+  stays stop s (q ∷ qs) = stays stop s qs
 
 -- a bound may be larger
 pub bounded-more : {Q : Type 0} {G : Q → Type 0} {n : ℕ} {qs : List Q} → Bounded G n qs → Bounded G (suc n) qs

@@ -1,9 +1,12 @@
 -- Laws of trees of questions. Assumes nothing.
 use Prim.Native.Nat.{ℕ, zero, suc, _+_, _-_, _≤_, zero-le, suc-le-suc}
-use mathlib.Core.Path.{_≡_, refl}
+use mathlib.Core.Path.{_≡_, refl, sym, ap, subst}
 use mathlib.Core.Bool.{Bool, true, false, cond}
+use mathlib.Core.List.{List, _∷_, _++_}
+use mathlib.Core.Logic.{_↔_}
 use native.Mathlib.Nat.{sub-zero, zero-sub, suc-sub-suc, add-comm, suc-add, zero-add}
-use Rattle.trees.specs.Tree.{Tree, done, ask, run, bind, after, asked, AtMost, ended, asking}
+use Rattle.trees.specs.Tree.{Tree, done, ask, run, bind, after, questions, asked, AtMost, ended, asking, AllNo}
+use Rattle.trees.specs.InTurn.{EachNo}
 
 module _ {Q R A : Type 0} (answer : Q → R) where
   -- the end of t and then f is the end of f at t's end
@@ -11,6 +14,12 @@ module _ {Q R A : Type 0} (answer : Q → R) where
   unfolding run bind
   run-bind (done a) f = refl
   run-bind (ask q next) f = run-bind (next (answer q)) f
+
+  -- its questions are t's, and then those of f at t's end
+  pub questions-bind : {B : Type 0} (t : Tree Q R A) (f : A → Tree Q R B) → questions answer (bind t f) ≡ questions answer t ++ questions answer (f (run answer t))
+  unfolding run bind questions
+  questions-bind (done a) f = refl
+  questions-bind (ask q next) f = ap (λ (qs : List Q). q ∷ qs) (questions-bind (next (answer q)) f)
 
   -- however many answers were given, the end is the same
   pub run-after : (n : ℕ) (t : Tree Q R A) → run answer (after answer n t) ≡ run answer t
@@ -66,3 +75,21 @@ module _ {Q R A B : Type 0} where
   unfolding bind
   at-most-bind m f (ended {n} {a}) h = rw (add-comm n m) (at-most-more n (h a))
   at-most-bind m f (asking k) h = rw suc-add (asking (λ r. at-most-bind m f (k r) h))
+
+-- every answer is no
+module _ {Q A : Type 0} (answer : Q → Bool) where
+  -- of t and then f: of t, and of f at t's end
+  pub all-no-bind : {B : Type 0} (t : Tree Q Bool A) (f : A → Tree Q Bool B) → AllNo answer (bind t f) ↔ (AllNo answer t × AllNo answer (f (run answer t)))
+  unfolding run bind
+  all-no-bind (done a) f = (λ h. (tt, h), λ h. h .1)
+  all-no-bind (ask q next) f =
+      let e = all-no-bind (next (answer q)) f in
+      (λ h. ((h .0, e .0 (h .1) .0), e .0 (h .1) .1), λ h. (h .0 .0, e .1 (h .0 .1, h .1)))
+
+  -- it is so exactly where each question is answered no that is asked after nothing but noes
+  pub all-no-questions : (t : Tree Q Bool A) → AllNo answer t ↔ EachNo answer (questions (λ (q : Q). false) t)
+  unfolding questions
+  all-no-questions (done a) = (λ h. h, λ h. h)
+  all-no-questions (ask q next) =
+      let e = all-no-questions (next false) in
+      (λ h. (h .0, e .0 (subst (λ (r : Bool). AllNo answer (next r)) (h .0) (h .1))), λ h. (h .0, subst (λ (r : Bool). AllNo answer (next r)) (sym (h .0)) (e .1 (h .1))))

@@ -1,5 +1,6 @@
 -- Questions asked in turn, each answered yes or no. A yes changes the state. Definitions only.
 use Prim.Native.Nat.{ℕ, suc}
+use mathlib.Core.Path.{_≡_}
 use mathlib.Core.Bool.{Bool, true, false}
 use mathlib.Core.List.{List, [], _∷_}
 use Rattle.trees.specs.Tree.{Tree, done, ask}
@@ -20,3 +21,8 @@ inTurn add stop s (q ∷ qs) = ask q (λ yes. answered add stop yes s q (λ s′
 pub data Bounded {Q : Type 0} (G : Q → Type 0) : ℕ → List Q → Type 0 where
   none : {n : ℕ} → Bounded G n []
   one : {n : ℕ} {q : Q} {qs : List Q} → G q → Bounded G n qs → Bounded G (suc n) (q ∷ qs)
+
+-- each is answered no
+abbrev pub EachNo : {Q : Type 0} → (Q → Bool) → List Q → Type 0
+EachNo answer [] = Unit {0}
+EachNo answer (q ∷ qs) = (answer q ≡ false) × EachNo answer qs

@@ -1,6 +1,9 @@
 -- A computation that asks questions of Q, is answered in R, and ends in an A. Definitions only.
 -- A planner's questions are its checks. Written so, its result, its state after n checks and a bound on their number are read off one definition.
 use Prim.Native.Nat.{ℕ, zero, suc}
+use mathlib.Core.Path.{_≡_}
+use mathlib.Core.Bool.{Bool, false}
+use mathlib.Core.List.{List, [], _∷_}
 
 pub data Tree (Q R A : Type 0) : Type 0 where
   done : A → Tree Q R A
@@ -22,7 +25,12 @@ after answer zero t = t
 after answer (suc n) (done a) = done a
 after answer (suc n) (ask q next) = after answer n (next (answer q))
 
--- how many questions are asked on the way to the end
+-- the questions that are asked on the way to the end, in their order
+unfoldable pub questions : {Q R A : Type 0} → (Q → R) → Tree Q R A → List Q
+questions answer (done a) = []
+questions answer (ask q next) = q ∷ questions answer (next (answer q))
+
+-- how many they are
 unfoldable pub asked : {Q R A : Type 0} → (Q → R) → Tree Q R A → ℕ
 asked answer (done a) = 0
 asked answer (ask q next) = suc (asked answer (next (answer q)))
@@ -31,3 +39,8 @@ asked answer (ask q next) = suc (asked answer (next (answer q)))
 pub data AtMost {Q R A : Type 0} : ℕ → Tree Q R A → Type 0 where
   ended : {n : ℕ} {a : A} → AtMost n (done a)
   asking : {n : ℕ} {q : Q} {next : R → Tree Q R A} → ((r : R) → AtMost n (next r)) → AtMost (suc n) (ask q next)
+
+-- every question that is asked on the way to the end is answered no
+abbrev pub AllNo : {Q A : Type 0} → (Q → Bool) → Tree Q Bool A → Type 0
+AllNo answer (done a) = Unit {0}
+AllNo answer (ask q next) = (answer q ≡ false) × AllNo answer (next (answer q))
