@@ -1,6 +1,6 @@
 -- What an answer of `get_profile` consists of: profiles that the check accepted, with the move's start and target. Assumes nothing.
 use Prim.Native.Nat.{ℕ, zero, _≤_}
-use mathlib.Core.Path.{_≡_, refl, sym, subst}
+use mathlib.Core.Path.{_≡_, refl, sym, ap, _∙_, subst}
 use mathlib.Core.Bool.{Bool, true, false, cond, _&&_, _||_, true≢false}
 use mathlib.Core.List.{List}
 use mathlib.Core.Logic.{_⊎_, inl, inr}
@@ -10,7 +10,6 @@ use lib.Ieee.{Float}
 use borrow.Author.Tests.{le-ltb}
 use Rattle.doubles.specs.Constants.{0ᶠ}
 use Rattle.profile.specs.Boundary.{startOf, targetOf, emptyProfile, boundaryFrom}
-use Rattle.profile.specs.Limits.{swappedLimits}
 use Rattle.profile.specs.declared.Profile.{Profile}
 use Rattle.profile.specs.declared.Start.{Start}
 use Rattle.profile.specs.declared.Target.{Target}
@@ -21,88 +20,70 @@ use Rattle.phase_times.specs.GetProfileTests.{hasZeroLimit, endsAtRest, restsAt
 use Rattle.phase_times.specs.TimeAllSingleStep.{startsMoving, startsAccelerated}
 use Rattle.phase_times.specs.declared.constants.Constants.{Constants}
 use Rattle.trees.specs.Tree.{run}
-use Rattle.trees.specs.InTurn.{Bounded}
 use Rattle.candidates.specs.Try.{Try, passes}
 use Rattle.candidates.specs.List.{slot, freshList}
 use Rattle.candidates.specs.Counted.{AcceptedOf, Sound}
 use Rattle.candidates.specs.declared.Candidates.{Candidates}
 use Rattle.candidates.proofs.CountLaws.{from-brake, from-accel}
 use Rattle.candidates.proofs.BoundaryLaws.{fresh-sound}
-use Rattle.position_third_step1.specs.Plan.{found, tries, TryWith}
+use Rattle.position_third_step1.specs.Plan.{TryWith}
 use Rattle.position_third_step1.specs.TimeAllSingleStep.{timeAllSingleStep}
-use Rattle.position_third_step1.proofs.FamilyLaws.{found-sound, all-vel-bounded, acc0-acc1-bounded, none-acc0-acc1-bounded, acc1-vel-two-step-bounded, acc0-two-step-bounded, vel-two-step-bounded, none-two-step-bounded, single-step-accepted}
+use Rattle.position_third_step1.proofs.FamilyLaws.{found-sound, single-step-accepted}
 use Rattle.block.specs.Blocks.{duration, noInterval, intervalFrom, blockOf, emptyBlock, planned, refused}
 use Rattle.block.specs.Selection.{removal, selected}
 use Rattle.block.specs.Plans.{Each}
 use Rattle.block.specs.declared.Answer.{Answer}
 use Rattle.block.proofs.MemberLaws.{alone-each, from-each, selected-each, selected-duration, refused-empty}
 use Rattle.block.proofs.RefusalLaws.{selected-refusal}
-use Rattle.get_profile.specs.GetProfile.{TryBetween, resting, moving, twoStep, towardsTarget, firstSearch, tryFamilies, afterPassing, singleStepAnswer, selectedFrom, getProfileAnswer}
-use Rattle.get_profile.proofs.FamiliesLaws.{Keeps, none, also, first-keeps, each-keeps}
+use Rattle.get_profile.specs.Stages.{Stage, limitsOf, itselfOrder, restingOrder, movingOrder, twoStepOrder, stopsOf, stageOf, stagesOf}
+use Rattle.get_profile.specs.GetProfile.{EitherWay, TryBetween, resting, moving, twoStep, towardsTarget, firstSearch, tryFamilies, afterPassing, singleStepAnswer, selectedFrom, getProfileAnswer, foundFor}
+use Rattle.get_profile.proofs.WayLaws.{way-of, towards}
+use Rattle.get_profile.proofs.FamiliesLaws.{Keeps, Every, none, also, first-keeps, each-keeps}
+use Rattle.get_profile.proofs.StageLaws.{tries-bounded, every-stage}
 use Rattle.get_profile.proofs.SearchLaws.{single-step-is, searched-is}
 
 -- ---- every family keeps the list sound
-module _ (start : Start) (target : Target) (k : Constants) (brake accel : Float) where
+module _ (start : Start) (target : Target) (M : Limits) (z : hasZeroLimit M ≡ false) (k : Constants) (brake accel : Float) where
   abbrev SoundList : Candidates → Type 0
-  SoundList = Sound (TryBetween start target) start target brake accel
+  SoundList = Sound (TryBetween start target M) start target brake accel
 
-  -- a family is a list of tries with the move's start and target
-  kept : (stop : Bool) {jf : Float} {m : Limits} {n : ℕ} {xs : List Try} → Bounded (TryWith start target jf m) n xs → Keeps SoundList (λ c. tries stop c xs)
-  kept stop b c p = found-sound stop c (λ x w. record { start-is = w .start-is; target-is = w .target-is }) b p
+  stage-kept : (stop : Bool) (m : Limits) → EitherWay M m → (s : Stage) → Keeps SoundList (stageOf start target k stop m s)
+  stage-kept stop m d s c p =
+      let n = limitsOf (s .1) m in
+      let e : EitherWay M n = way-of M m (s .1) d in
+      found-sound (stopsOf stop (s .0)) c
+      (λ x (w : TryWith start target (n .«j_max») n x).
+      record {
+        start-is = w .start-is;
+        target-is = w .target-is;
+        limits-are = subst (EitherWay M) (sym (w .limits-is)) e;
+        jerk-is = inl (z, w .jerk-is ∙ ap (λ (l : Limits). l .«j_max») (sym (w .limits-is)));
+      })
+      (tries-bounded start target k (s .0) n)
+      p
 
-  resting-kept : (m : Limits) → Keeps SoundList (resting start target k m)
-  unfolding resting
-  resting-kept m =
-      let s = swappedLimits m in
-      first-keeps SoundList
-      (also (kept true (all-vel-bounded start target k m))
-      (also (kept true (none-acc0-acc1-bounded start target k m))
-      (also (kept true (acc0-acc1-bounded start target k m))
-      (also (kept true (all-vel-bounded start target k s))
-      (also (kept true (none-acc0-acc1-bounded start target k s))
-      (also (kept true (acc0-acc1-bounded start target k s)) none))))))
+  stages-kept : (stop : Bool) (m : Limits) → EitherWay M m → (order : List Stage) → Every (Keeps SoundList) (stagesOf start target k stop m order)
+  stages-kept stop m d = every-stage start target k stop m (Keeps SoundList) (stage-kept stop m d)
 
-  moving-kept : (m : Limits) → Keeps SoundList (moving start target k m)
-  unfolding moving
-  moving-kept m =
-      let s = swappedLimits m in
-      each-keeps SoundList
-      (also (kept false (none-acc0-acc1-bounded start target k m))
-      (also (kept false (none-acc0-acc1-bounded start target k s))
-      (also (kept false (acc0-acc1-bounded start target k m))
-      (also (kept false (acc0-acc1-bounded start target k s))
-      (also (kept true (all-vel-bounded start target k m))
-      (also (kept true (all-vel-bounded start target k s)) none))))))
+  search-kept : (at-rest at-target : Bool) → Keeps SoundList (firstSearch start target k at-rest at-target M)
+  unfolding firstSearch resting moving
+  search-kept true true = first-keeps SoundList (stages-kept true (towardsTarget k M) (towards M k) itselfOrder)
+  search-kept true false = first-keeps SoundList (stages-kept true (towardsTarget k M) (towards M k) restingOrder)
+  search-kept false at-target = each-keeps SoundList (stages-kept false M (inl refl) movingOrder)
 
-  two-step-kept : (m : Limits) → Keeps SoundList (twoStep start target k m)
+  two-step-kept : Keeps SoundList (twoStep start target k M)
   unfolding twoStep
-  two-step-kept m =
-      let s = swappedLimits m in
-      first-keeps SoundList
-      (also (kept true (none-two-step-bounded start target k m))
-      (also (kept true (none-two-step-bounded start target k s))
-      (also (kept true (acc0-two-step-bounded start target k m))
-      (also (kept true (acc0-two-step-bounded start target k s))
-      (also (kept true (vel-two-step-bounded start target k m))
-      (also (kept true (vel-two-step-bounded start target k s))
-      (also (kept true (acc1-vel-two-step-bounded start target k m))
-      (also (kept true (acc1-vel-two-step-bounded start target k s)) none))))))))
+  two-step-kept = first-keeps SoundList (stages-kept true M (inl refl) twoStepOrder)
 
-  search-kept : (at-rest at-target : Bool) (m : Limits) → Keeps SoundList (firstSearch start target k at-rest at-target m)
-  unfolding firstSearch
-  search-kept true true m = kept true (none-acc0-acc1-bounded start target k (towardsTarget k m))
-  search-kept true false m = resting-kept (towardsTarget k m)
-  search-kept false at-target m = moving-kept m
-
-  families-kept : (m : Limits) → Keeps SoundList (tryFamilies start target k m)
+  families-kept : Keeps SoundList (tryFamilies start target k M)
   unfolding tryFamilies
-  families-kept m = first-keeps SoundList (also (search-kept (endsAtRest target) (restsAtTarget start k) m) (also (two-step-kept m) none))
+  families-kept = first-keeps SoundList (also (search-kept (endsAtRest target) (restsAtTarget start k)) (also two-step-kept none))
 
 -- ---- what is said of an answer
-module _ (input : Profile) where
-  -- q was accepted by a check, with the start, the target and the durations of the input
+module _ (input : Profile) (m : Limits) where
+  -- q was accepted by a check, with the start, the target and the durations of the input, and these limits in either direction
   abbrev pub AcceptedFor : Profile → Type 0
-  AcceptedFor = AcceptedOf (TryBetween (startOf input) (targetOf input)) (input .brake) (input .accel)
+  AcceptedFor = AcceptedOf (TryBetween (startOf input) (targetOf input) m) (input .brake) (input .accel)
 
   -- 0, 4 or 5; what a plan consists of; the empty plan elsewhere
   pub record Answered (r : Answer) : Type 0 where
@@ -121,7 +102,7 @@ module _ (input : Profile) where
       go false false true e = inr (inr refl)
       go false false false e = inl refl
 
-  selection-answered : (c : Candidates) → Sound (TryBetween (startOf input) (targetOf input)) (startOf input) (targetOf input) (input .brake) (input .accel) c → Answered (selectedFrom c)
+  selection-answered : (c : Candidates) → Sound (TryBetween (startOf input) (targetOf input) m) (startOf input) (targetOf input) (input .brake) (input .accel) c → Answered (selectedFrom c)
   selection-answered c h =
       record {
         number = selected-number (slot c) (c .«current_index») (h .ready .sized .at-most-five);
@@ -155,19 +136,25 @@ module _ (input : Profile) (m : Limits) where
   abbrev k : Constants
   k = constantsOf (startOf input) (targetOf input) m
 
-  searched : Answered input (selectedFrom (found (tryFamilies (startOf input) (targetOf input) k m (freshList input))))
-  searched = selection-answered input _ (families-kept (startOf input) (targetOf input) k (input .brake) (input .accel) m (freshList input) (fresh-sound input _))
+  searched : hasZeroLimit m ≡ false → Answered input m (selectedFrom (foundFor input m))
+  searched z = selection-answered input m _ (families-kept (startOf input) (targetOf input) m z k (input .brake) (input .accel) (freshList input) (fresh-sound input _))
 
   -- the path works on the input's boundary
-  jerkless : (q : Profile) → q .brake ≡ input .brake → q .accel ≡ input .accel → {r : Profile} → AcceptedOf (TryWith (startOf input) (targetOf input) 0ᶠ m) (q .brake) (q .accel) r → AcceptedFor input r
-  jerkless q eb ea h = record { x = h .x; is-of = record { start-is = h .is-of .start-is; target-is = h .is-of .target-is }; passed = h .passed; made-is = rw (← eb, ← ea) (h .made-is) }
+  jerkless : hasZeroLimit m ≡ true → (q : Profile) → q .brake ≡ input .brake → q .accel ≡ input .accel → {r : Profile} → AcceptedOf (TryWith (startOf input) (targetOf input) 0ᶠ m) (q .brake) (q .accel) r → AcceptedFor input m r
+  jerkless z q eb ea h =
+      record {
+        x = h .x;
+        is-of = record { start-is = h .is-of .start-is; target-is = h .is-of .target-is; limits-are = inl (h .is-of .limits-is); jerk-is = inr (z, h .is-of .jerk-is) };
+        passed = h .passed;
+        made-is = rw (← eb, ← ea) (h .made-is);
+      }
 
-  jerkless-step : Answered input (singleStepAnswer (startOf input) (run passes (timeAllSingleStep (boundaryFrom emptyProfile input) (startOf input) (targetOf input) k m)))
-  jerkless-step = single-step-answered input (startOf input) _ (λ e. jerkless (boundaryFrom emptyProfile input) (from-brake emptyProfile input) (from-accel emptyProfile input) (single-step-accepted (boundaryFrom emptyProfile input) (startOf input) (targetOf input) k m e))
+  jerkless-step : hasZeroLimit m ≡ true → Answered input m (singleStepAnswer (startOf input) (run passes (timeAllSingleStep (boundaryFrom emptyProfile input) (startOf input) (targetOf input) k m)))
+  jerkless-step z = single-step-answered input m (startOf input) _ (λ e. jerkless z (boundaryFrom emptyProfile input) (from-brake emptyProfile input) (from-accel emptyProfile input) (single-step-accepted (boundaryFrom emptyProfile input) (startOf input) (targetOf input) k m e))
 
-  pub answered : Answered input (getProfileAnswer input m)
+  pub answered : Answered input m (getProfileAnswer input m)
   answered = go (hasZeroLimit m) refl
     where
-      go : (zero : Bool) → hasZeroLimit m ≡ zero → Answered input (getProfileAnswer input m)
-      go true e = subst (Answered input) (sym (single-step-is input m e)) jerkless-step
-      go false e = subst (Answered input) (sym (searched-is input m e)) searched
+      go : (zero : Bool) → hasZeroLimit m ≡ zero → Answered input m (getProfileAnswer input m)
+      go true e = subst (Answered input m) (sym (single-step-is input m e)) (jerkless-step e)
+      go false e = subst (Answered input m) (sym (searched-is input m e)) (searched e)

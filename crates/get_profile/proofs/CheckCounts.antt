@@ -3,7 +3,6 @@ use Prim.Native.Nat.{ℕ, _+_}
 use mathlib.Core.Path.{_≡_, sym, ap, subst}
 use mathlib.Core.Bool.{Bool, true, false}
 use Rattle.profile.specs.Boundary.{startOf, targetOf, emptyProfile, boundaryFrom}
-use Rattle.profile.specs.Limits.{swappedLimits}
 use Rattle.profile.specs.declared.Profile.{Profile}
 use Rattle.profile.specs.declared.Start.{Start}
 use Rattle.profile.specs.declared.Target.{Target}
@@ -16,49 +15,28 @@ use Rattle.trees.proofs.TreeLaws.{at-most-more, at-most-bind}
 use Rattle.candidates.specs.Try.{Try}
 use Rattle.candidates.specs.List.{freshList}
 use Rattle.block.specs.declared.Answer.{Answer}
-use Rattle.position_third_step1.proofs.FamilyLaws.{checks-at-most, all-vel-bounded, acc0-acc1-bounded, none-acc0-acc1-bounded, acc1-vel-two-step-bounded, acc0-two-step-bounded, vel-two-step-bounded, none-two-step-bounded, single-step-at-most}
+use Rattle.position_third_step1.proofs.FamilyLaws.{single-step-at-most}
+use Rattle.get_profile.specs.Stages.{itselfOrder, restingOrder, movingOrder, twoStepOrder}
 use Rattle.get_profile.specs.GetProfile.{resting, moving, twoStep, towardsTarget, firstSearch, tryFamilies, getProfileBy, getProfile}
-use Rattle.get_profile.proofs.FamiliesLaws.{AtMostFrom, first-at-most, each-at-most, no-first, no-each}
+use Rattle.get_profile.proofs.FamiliesLaws.{AtMostFrom, first-at-most, no-first}
+use Rattle.get_profile.proofs.StageLaws.{first-stages-at-most, each-stages-at-most}
 
 module _ (start : Start) (target : Target) (k : Constants) where
+  itself-at-most : (m : Limits) → AtMostFrom 12 (firstSearch start target k true true m)
+  unfolding firstSearch
+  itself-at-most m c = first-stages-at-most start target k true (towardsTarget k m) itselfOrder c
+
   resting-at-most : (m : Limits) → AtMostFrom 36 (resting start target k m)
   unfolding resting
-  resting-at-most m =
-      let s = swappedLimits m in
-      first-at-most 32 _ (λ c. checks-at-most true c (all-vel-bounded start target k m))
-      (first-at-most 20 _ (λ c. checks-at-most true c (none-acc0-acc1-bounded start target k m))
-      (first-at-most 18 _ (λ c. checks-at-most true c (acc0-acc1-bounded start target k m))
-      (first-at-most 14 _ (λ c. checks-at-most true c (all-vel-bounded start target k s))
-      (first-at-most 2 _ (λ c. checks-at-most true c (none-acc0-acc1-bounded start target k s))
-      (first-at-most 0 _ (λ c. checks-at-most true c (acc0-acc1-bounded start target k s)) no-first)))))
+  resting-at-most m = first-stages-at-most start target k true m restingOrder
 
   moving-at-most : (m : Limits) → AtMostFrom 36 (moving start target k m)
   unfolding moving
-  moving-at-most m =
-      let s = swappedLimits m in
-      each-at-most 24 _ (λ c. checks-at-most false c (none-acc0-acc1-bounded start target k m))
-      (each-at-most 12 _ (λ c. checks-at-most false c (none-acc0-acc1-bounded start target k s))
-      (each-at-most 10 _ (λ c. checks-at-most false c (acc0-acc1-bounded start target k m))
-      (each-at-most 8 _ (λ c. checks-at-most false c (acc0-acc1-bounded start target k s))
-      (each-at-most 4 _ (λ c. checks-at-most true c (all-vel-bounded start target k m))
-      (each-at-most 0 _ (λ c. checks-at-most true c (all-vel-bounded start target k s)) no-each)))))
+  moving-at-most m = each-stages-at-most start target k false m movingOrder
 
   two-step-at-most : (m : Limits) → AtMostFrom 18 (twoStep start target k m)
   unfolding twoStep
-  two-step-at-most m =
-      let s = swappedLimits m in
-      first-at-most 16 _ (λ c. checks-at-most true c (none-two-step-bounded start target k m))
-      (first-at-most 14 _ (λ c. checks-at-most true c (none-two-step-bounded start target k s))
-      (first-at-most 10 _ (λ c. checks-at-most true c (acc0-two-step-bounded start target k m))
-      (first-at-most 6 _ (λ c. checks-at-most true c (acc0-two-step-bounded start target k s))
-      (first-at-most 4 _ (λ c. checks-at-most true c (vel-two-step-bounded start target k m))
-      (first-at-most 2 _ (λ c. checks-at-most true c (vel-two-step-bounded start target k s))
-      (first-at-most 1 _ (λ c. checks-at-most true c (acc1-vel-two-step-bounded start target k m))
-      (first-at-most 0 _ (λ c. checks-at-most true c (acc1-vel-two-step-bounded start target k s)) no-first)))))))
-
-  itself-at-most : (m : Limits) → AtMostFrom 12 (firstSearch start target k true true m)
-  unfolding firstSearch
-  itself-at-most m c = checks-at-most true c (none-acc0-acc1-bounded start target k (towardsTarget k m))
+  two-step-at-most m = first-stages-at-most start target k true m twoStepOrder
 
   search-at-most : (at-rest at-target : Bool) (m : Limits) → AtMostFrom 36 (firstSearch start target k at-rest at-target m)
   unfolding firstSearch

@@ -2,11 +2,13 @@
 use Prim.Native.Nat.{ℕ, _+_, _<_, _≤_}
 use mathlib.Core.Path.{_≡_, refl, sym, ap, _∙_, subst}
 use mathlib.Core.Bool.{Bool, true, false}
-use mathlib.Core.List.{List, [], _∷_}
+use mathlib.Core.List.{List, [], _∷_, _++_}
+use mathlib.Core.Logic.{_↔_}
+use native.Mathlib.Omega.{arith}
 use borrow.Author.Tests.{lt-ltb, le-ltb}
-use Rattle.trees.specs.Tree.{done, bind, run, AtMost, ended}
-use Rattle.trees.proofs.TreeLaws.{run-bind, at-most-bind}
-use Rattle.candidates.specs.Try.{passes}
+use Rattle.trees.specs.Tree.{done, bind, run, questions, AtMost, ended, AllNo}
+use Rattle.trees.proofs.TreeLaws.{run-bind, questions-bind, all-no-bind, at-most-bind}
+use Rattle.candidates.specs.Try.{Try, passes}
 use Rattle.candidates.specs.declared.Candidates.{Candidates}
 use Rattle.position_third_step1.specs.Plan.{Plan, found}
 use Rattle.get_profile.specs.Families.{Family, isFound, unlessFound, eachOf, firstOf}
@@ -54,22 +56,82 @@ unless-found-is P false f c p h = h p
 abbrev pub Keeps : (Candidates → Type 0) → Family → Type 0
 Keeps P f = (c : Candidates) → P c → P (found (f c))
 
-pub data EachKeeps (P : Candidates → Type 0) : List Family → Type 0 where
-  none : EachKeeps P []
-  also : {f : Family} {fs : List Family} → Keeps P f → EachKeeps P fs → EachKeeps P (f ∷ fs)
+pub data Every (P : Family → Type 0) : List Family → Type 0 where
+  none : Every P []
+  also : {f : Family} {fs : List Family} → P f → Every P fs → Every P (f ∷ fs)
 
 module _ (P : Candidates → Type 0) where
-  pub first-keeps : {fs : List Family} → EachKeeps P fs → Keeps P (firstOf fs)
+  pub first-keeps : {fs : List Family} → Every (Keeps P) fs → Keeps P (firstOf fs)
   unfolding firstOf run
   first-keeps none c p = p
   first-keeps (also {f} {fs} h hs) c p =
       subst P (sym (run-bind passes (f c) (λ z. unlessFound (isFound z) (firstOf fs) z)))
       (unless-found-is P (isFound (found (f c))) (firstOf fs) (found (f c)) (h c p) (first-keeps hs (found (f c))))
 
-  pub each-keeps : {fs : List Family} → EachKeeps P fs → Keeps P (eachOf fs)
+  pub each-keeps : {fs : List Family} → Every (Keeps P) fs → Keeps P (eachOf fs)
   unfolding eachOf run
   each-keeps none c p = p
   each-keeps (also {f} {fs} h hs) c p = subst P (sym (run-bind passes (f c) (eachOf fs))) (each-keeps hs (found (f c)) (h c p))
+
+-- ---- where nothing is found
+
+-- nothing counts at the end exactly where nothing did before and no try is accepted
+abbrev pub NoneFound : Family → Type 0
+NoneFound f = (c : Candidates) → (found (f c) .«current_index» ≡ 0) ↔ ((c .«current_index» ≡ 0) × AllNo passes (f c))
+
+then-none-found : (f g : Family) → NoneFound f → NoneFound g → NoneFound (λ c. bind (f c) g)
+then-none-found f g hf hg c =
+    let e = ap (λ (z : Candidates). z .«current_index») (run-bind passes (f c) g) in
+    let b = all-no-bind passes (f c) g in
+    let later = hg (found (f c)) in
+    (λ h. let w = later .0 (sym e ∙ h) in (hf c .0 (w .0) .0, b .1 (hf c .0 (w .0) .1, w .1)), λ z. let w = b .0 (z .1) in e ∙ later .1 (hf c .1 (z .0, w .0), w .1))
+
+unless-none-found : (b : Bool) (f : Family) → NoneFound f → NoneFound (λ c. unlessFound b f c)
+unfolding unlessFound run
+unless-none-found true f h c = (λ e. (e, tt), λ z. z .0)
+unless-none-found false f h c = h c
+
+pub first-none-found : {fs : List Family} → Every NoneFound fs → NoneFound (firstOf fs)
+unfolding firstOf run
+first-none-found none c = (λ e. (e, tt), λ z. z .0)
+first-none-found (also {f} {fs} h hs) c = then-none-found f (λ d. unlessFound (isFound d) (firstOf fs) d) h (λ d. unless-none-found (isFound d) (firstOf fs) (first-none-found hs) d) c
+
+pub each-none-found : {fs : List Family} → Every NoneFound fs → NoneFound (eachOf fs)
+unfolding eachOf run
+each-none-found none c = (λ e. (e, tt), λ z. z .0)
+each-none-found (also {f} {fs} h hs) c = then-none-found f (eachOf fs) h (each-none-found hs) c
+
+-- ---- what is asked where every answer is no
+abbrev pub refuse : Try → Bool
+refuse x = false
+
+-- from a list in which nothing counts, these tries are asked, and the list stays
+abbrev pub Asks : Family → List Try → Type 0
+Asks f xs = (c : Candidates) → c .«current_index» ≡ 0 → (questions refuse (f c) ≡ xs) × (run refuse (f c) ≡ c)
+
+then-asks : (f g : Family) {xs ys : List Try} → Asks f xs → Asks g ys → Asks (λ c. bind (f c) g) (xs ++ ys)
+then-asks f g {xs} hf hg c z =
+    (questions-bind refuse (f c) g ∙ rw (hf c z .0, hf c z .1, hg c z .0), run-bind refuse (f c) g ∙ ap (λ (d : Candidates). run refuse (g d)) (hf c z .1) ∙ hg c z .1)
+
+unless-asks : (f : Family) {xs : List Try} → Asks f xs → Asks (λ c. unlessFound (isFound c) f c) xs
+unfolding unlessFound
+unless-asks f h c z = rw (le-ltb 0 (c .«current_index») (omega arith)) (h c z)
+
+pub first-asks : (f : Family) (fs : List Family) {xs ys : List Try} → Asks f xs → Asks (firstOf fs) ys → Asks (firstOf (f ∷ fs)) (xs ++ ys)
+unfolding firstOf
+first-asks f fs hf hs = then-asks f (λ d. unlessFound (isFound d) (firstOf fs) d) hf (unless-asks (firstOf fs) hs)
+
+pub each-asks : (f : Family) (fs : List Family) {xs ys : List Try} → Asks f xs → Asks (eachOf fs) ys → Asks (eachOf (f ∷ fs)) (xs ++ ys)
+unfolding eachOf
+each-asks f fs hf hs = then-asks f (eachOf fs) hf hs
+
+pub none-asks-first : Asks (firstOf []) []
+unfolding firstOf questions run
+none-asks-first c z = (refl, refl)
+
+pub none-asks-each : Asks (eachOf []) []
+unfolding eachOf questions run
+none-asks-each c z = (refl, refl)
 
 -- ---- how many checks are made
 unless-found-at-most : {n : ℕ} (b : Bool) (f : Family) (c : Candidates) → AtMost n (f c) → AtMost n (unlessFound b f c)

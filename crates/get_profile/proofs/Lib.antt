@@ -1,5 +1,8 @@
 -- Laws of `get_profile`.
 pub mod FamiliesLaws
+pub mod OrderLaws
+pub mod WayLaws
+pub mod StageLaws
 pub mod SearchLaws
 pub mod AnswerLaws
 pub mod CheckCounts

@@ -20,7 +20,9 @@ use Rattle.position_third_step1.specs.TimeAllNoneAcc0Acc1.{timeAllNoneAcc0Acc1}
 use Rattle.position_third_step1.specs.TimeAllSingleStep.{timeAllSingleStep}
 use Rattle.block.specs.Selection.{selected}
 use Rattle.block.specs.declared.Answer.{Answer}
+use Rattle.get_profile.specs.Stages.{none-acc0-acc1, given, stageOf}
 use Rattle.get_profile.specs.GetProfile.{resting, moving, towardsTarget, firstSearch, tryFamilies, singleStepAnswer, selectedFrom, getProfileBy, getProfile, getProfileAnswer}
+use Rattle.get_profile.proofs.FamiliesLaws.{last-of-first}
 
 not-true : (b : Bool) → not b ≡ true → b ≡ false
 not-true false h = refl
@@ -47,7 +49,7 @@ module _ (start : Start) (target : Target) (k : Constants) (m : Limits) (c : Can
 
     pub to-itself : at-target ≡ true → {r : Candidates} → r ≡ found (timeAllNoneAcc0Acc1 c start target k towards true) → r ≡ first
     unfolding firstSearch
-    to-itself g e = e ∙ ap (λ (m : Limits). found (timeAllNoneAcc0Acc1 c start target k m true)) em ∙ sym (first-is g)
+    to-itself g e = last-of-first (stageOf start target k true (towardsTarget k m) (none-acc0-acc1, given)) c (e ∙ ap (λ (m : Limits). found (timeAllNoneAcc0Acc1 c start target k m true)) em) ∙ sym (first-is g)
 
     pub to-rest : at-target ≡ false → {r : Candidates} → r ≡ found (resting start target k towards c) → r ≡ first
     unfolding firstSearch

@@ -1,7 +1,10 @@
 -- `get_profile` on a fresh planner and a fresh block: which families are tried for which move, in which order and up to where. Definitions only.
 use mathlib.Core.Path.{_≡_}
 use mathlib.Core.Bool.{Bool, true, false, cond, _||_}
-use mathlib.Core.List.{List, [], _∷_}
+use mathlib.Core.List.{List, [], _∷_, _++_}
+use mathlib.Core.Logic.{_⊎_}
+use lib.Ieee.{Float}
+use Rattle.doubles.specs.Constants.{0ᶠ}
 use Rattle.profile.specs.Boundary.{startOf, targetOf, emptyProfile, boundaryFrom}
 use Rattle.profile.specs.Limits.{swappedLimits}
 use Rattle.profile.specs.declared.Profile.{Profile}
@@ -13,20 +16,18 @@ use Rattle.phase_times.specs.Constants.{constantsOf}
 use Rattle.phase_times.specs.GetProfileTests.{hasZeroLimit, endsAtRest, pointsUp, restsAtTarget}
 use Rattle.phase_times.specs.TimeAllSingleStep.{startsMoving, startsAccelerated}
 use Rattle.phase_times.specs.declared.constants.Constants.{Constants}
-use Rattle.trees.specs.Tree.{Tree, done, bind, run}
+use Rattle.trees.specs.Tree.{Tree, done, bind, run, AllNo}
 use Rattle.candidates.specs.Try.{Try, passes}
 use Rattle.candidates.specs.List.{slot, freshList}
 use Rattle.candidates.specs.declared.Candidates.{Candidates}
-use Rattle.position_third_step1.specs.TimeAllVel.{timeAllVel}
-use Rattle.position_third_step1.specs.TimeAcc0Acc1.{timeAcc0Acc1}
-use Rattle.position_third_step1.specs.TimeAllNoneAcc0Acc1.{timeAllNoneAcc0Acc1}
-use Rattle.position_third_step1.specs.TwoStep.{timeAcc1VelTwoStep, timeAcc0TwoStep, timeVelTwoStep, timeNoneTwoStep}
-use Rattle.position_third_step1.specs.TimeAllSingleStep.{timeAllSingleStep}
+use Rattle.position_third_step1.specs.Plan.{found}
+use Rattle.position_third_step1.specs.TimeAllSingleStep.{singleStepTries, timeAllSingleStep}
 use Rattle.block.specs.Blocks.{duration, noInterval, intervalFrom, blockOf, planned, refused}
-use Rattle.block.specs.Selection.{selected}
+use Rattle.block.specs.Selection.{removal, selected}
 use Rattle.block.specs.declared.Interval.{Interval}
 use Rattle.block.specs.declared.Answer.{Answer}
 use Rattle.get_profile.specs.Families.{Family, eachOf, firstOf}
+use Rattle.get_profile.specs.Stages.{itselfOrder, restingOrder, movingOrder, twoStepOrder, stagesOf, stageTries}
 
 -- the limits for the direction of pf - p0
 unfoldable pub towardsTarget : Constants → Limits → Limits
@@ -35,45 +36,19 @@ towardsTarget k m = cond (pointsUp k) m (swappedLimits m)
 module _ (start : Start) (target : Target) (k : Constants) where
   -- a resting target: up to the first success, in the direction of m and then in the other
   unfoldable pub resting : Limits → Family
-  resting m =
-      firstOf
-      ((λ c. timeAllVel c start target k m)
-      ∷ (λ c. timeAllNoneAcc0Acc1 c start target k m true)
-      ∷ (λ c. timeAcc0Acc1 c start target k m true)
-      ∷ (λ c. timeAllVel c start target k (swappedLimits m))
-      ∷ (λ c. timeAllNoneAcc0Acc1 c start target k (swappedLimits m) true)
-      ∷ (λ c. timeAcc0Acc1 c start target k (swappedLimits m) true)
-      ∷ [])
+  resting m = firstOf (stagesOf start target k true m restingOrder)
 
   -- any other target: all families, both directions
   unfoldable pub moving : Limits → Family
-  moving m =
-      eachOf
-      ((λ c. timeAllNoneAcc0Acc1 c start target k m false)
-      ∷ (λ c. timeAllNoneAcc0Acc1 c start target k (swappedLimits m) false)
-      ∷ (λ c. timeAcc0Acc1 c start target k m false)
-      ∷ (λ c. timeAcc0Acc1 c start target k (swappedLimits m) false)
-      ∷ (λ c. timeAllVel c start target k m)
-      ∷ (λ c. timeAllVel c start target k (swappedLimits m))
-      ∷ [])
+  moving m = eachOf (stagesOf start target k false m movingOrder)
 
   -- with none found, the two-step families
   unfoldable pub twoStep : Limits → Family
-  twoStep m =
-      firstOf
-      ((λ c. timeNoneTwoStep c start target k m)
-      ∷ (λ c. timeNoneTwoStep c start target k (swappedLimits m))
-      ∷ (λ c. timeAcc0TwoStep c start target k m)
-      ∷ (λ c. timeAcc0TwoStep c start target k (swappedLimits m))
-      ∷ (λ c. timeVelTwoStep c start target k m)
-      ∷ (λ c. timeVelTwoStep c start target k (swappedLimits m))
-      ∷ (λ c. timeAcc1VelTwoStep c start target k m)
-      ∷ (λ c. timeAcc1VelTwoStep c start target k (swappedLimits m))
-      ∷ [])
+  twoStep m = firstOf (stagesOf start target k true m twoStepOrder)
 
   -- what is tried first: for a resting target in the direction of pf - p0 first; a rest that is its own target tries one family, once
   unfoldable pub firstSearch : (ends-at-rest rests-at-target : Bool) → Limits → Family
-  firstSearch true true m c = timeAllNoneAcc0Acc1 c start target k (towardsTarget k m) true
+  firstSearch true true m c = firstOf (stagesOf start target k true (towardsTarget k m) itselfOrder) c
   firstSearch true false m c = resting (towardsTarget k m) c
   firstSearch false rests-at-target m c = moving m c
 
@@ -113,7 +88,45 @@ getProfileAnswer input m = run passes (getProfile input m)
 
 -- ---- what is said of the tries
 
--- a try of a move from this start to this target
-pub record TryBetween (start : Start) (target : Target) (x : Try) : Type 0 where
+-- all tries, in the order in which they are asked where each is refused
+module _ (start : Start) (target : Target) (k : Constants) where
+  abbrev pub firstTries : (ends-at-rest rests-at-target : Bool) → Limits → List Try
+  firstTries true true m = stageTries start target k (towardsTarget k m) itselfOrder
+  firstTries true false m = stageTries start target k (towardsTarget k m) restingOrder
+  firstTries false rests-at-target m = stageTries start target k m movingOrder
+
+  unfoldable pub allTries : Limits → List Try
+  allTries m =
+      cond (hasZeroLimit m) (singleStepTries start target k m)
+      (firstTries (endsAtRest target) (restsAtTarget start k) m ++ stageTries start target k m twoStepOrder)
+
+-- the limits of a move as they are, or for the opposite direction
+abbrev pub EitherWay : Limits → Limits → Type 0
+EitherWay m n = (n ≡ m) ⊎ (n ≡ swappedLimits m)
+
+-- the jerk of a check with the limits n: theirs, or on the single-step path 0
+abbrev pub JerkOf : (m n : Limits) → Float → Type 0
+JerkOf m n jf = ((hasZeroLimit m ≡ false) × (jf ≡ n .«j_max»)) ⊎ ((hasZeroLimit m ≡ true) × (jf ≡ 0ᶠ))
+
+-- a try of a move from this start to this target, with its limits in either direction
+pub record TryBetween (start : Start) (target : Target) (m : Limits) (x : Try) : Type 0 where
   pub start-is : x .start ≡ start
   pub target-is : x .target ≡ target
+  pub limits-are : EitherWay m (x .limits)
+  pub jerk-is : JerkOf m (x .limits) (x .jf)
+
+-- ---- what is said of the answer
+
+-- no try that is asked is accepted
+abbrev pub NoneAccepted : Profile → Limits → Type 0
+NoneAccepted input m = AllNo passes (getProfile input m)
+
+-- what the families find
+abbrev pub foundFor : Profile → Limits → Candidates
+foundFor input m = found (tryFamilies (startOf input) (targetOf input) (constantsOf (startOf input) (targetOf input) m) m (freshList input))
+
+-- they are tried, exactly four profiles count at their end, and no removal rule applies
+pub record FourStay (input : Profile) (m : Limits) : Type 0 where
+  pub by-families : hasZeroLimit m ≡ false
+  pub four : foundFor input m .«current_index» ≡ 4
+  pub no-rule : removal (slot (foundFor input m)) ≡ 0

@@ -1,3 +1,4 @@
--- The definitions of `get_profile`: families put one after the other, and which of them are tried.
+-- The definitions of `get_profile`: families put one after the other, the stages of a search, and which of them are tried.
 pub mod Families
+pub mod Stages
 pub mod GetProfile

@@ -1,14 +1,13 @@
 -- `get_profile::moving` meets its contract. Assumes nothing.
-use Rattle.get_profile.specs.GetProfile.{moving}
 use Rattle.get_profile.proofs.FamiliesLaws.{each-on, last-of-each}
+use Rattle.get_profile.proofs.OrderLaws.{moves}
 use borrow.Author.Needs.{needs}
 use Rattle.get_profile.proofs.moving.Statement.{statement}
 use Rattle.get_profile.proofs.moving.Tie as tie
 
 returns : tie.Need-returns
-unfolding moving
 returns c =
-    rw (← c .before .before .before .before .before .before .swapped .ensures)
+    moves _ _ _ _ (c .before .before .before .before .before .before .swapped .ensures) _
     (each-on _ _ _ (c .before .before .before .before .before .time-all-none-acc0-acc1 .ensures)
     (each-on _ _ _ (c .before .before .before .before .time-all-none-acc0-acc12 .ensures)
     (each-on _ _ _ (c .before .before .before .time-acc0-acc1 .ensures)

@@ -1,44 +1,39 @@
 -- `get_profile::two_step` meets its contract. Assumes nothing.
-use Rattle.get_profile.specs.GetProfile.{twoStep}
 use Rattle.get_profile.proofs.FamiliesLaws.{first-finds, first-fails, last-of-first}
+use Rattle.get_profile.proofs.OrderLaws.{two-steps}
 use borrow.Author.Needs.{needs}
 use Rattle.get_profile.proofs.two_step.Statement.{statement}
 use Rattle.get_profile.proofs.two_step.Tie as tie
 
 returns : tie.Need-returns
-unfolding twoStep
 returns c =
-    rw (← c .before .before .before .swapped .ensures)
+    two-steps _ _ _ _ (c .before .before .before .swapped .ensures) _
     (first-finds _ _ _ (c .before .before .time-none-two-step .ensures) (c .if1 .taken))
 
 returns-2 : tie.Need-returns-2
-unfolding twoStep
 returns-2 c =
-    rw (← c .before .before .before .before .before .before .swapped .ensures)
+    two-steps _ _ _ _ (c .before .before .before .before .before .before .swapped .ensures) _
     (first-fails _ _ _ (c .before .before .before .before .before .time-none-two-step .ensures) (c .before .before .before .if1 .left)
     (first-finds _ _ _ (c .before .before .time-none-two-step2 .ensures) (c .if2 .taken)))
 
 returns-3 : tie.Need-returns-3
-unfolding twoStep
 returns-3 c =
-    rw (← c .before .before .before .before .before .before .before .before .before .swapped .ensures)
+    two-steps _ _ _ _ (c .before .before .before .before .before .before .before .before .before .swapped .ensures) _
     (first-fails _ _ _ (c .before .before .before .before .before .before .before .before .time-none-two-step .ensures) (c .before .before .before .before .before .before .if1 .left)
     (first-fails _ _ _ (c .before .before .before .before .before .time-none-two-step2 .ensures) (c .before .before .before .if2 .left)
     (first-finds _ _ _ (c .before .before .time-acc0-two-step .ensures) (c .if3 .taken))))
 
 returns-4 : tie.Need-returns-4
-unfolding twoStep
 returns-4 c =
-    rw (← c .before .before .before .before .before .before .before .before .before .before .before .before .swapped .ensures)
+    two-steps _ _ _ _ (c .before .before .before .before .before .before .before .before .before .before .before .before .swapped .ensures) _
     (first-fails _ _ _ (c .before .before .before .before .before .before .before .before .before .before .before .time-none-two-step .ensures) (c .before .before .before .before .before .before .before .before .before .if1 .left)
     (first-fails _ _ _ (c .before .before .before .before .before .before .before .before .time-none-two-step2 .ensures) (c .before .before .before .before .before .before .if2 .left)
     (first-fails _ _ _ (c .before .before .before .before .before .time-acc0-two-step .ensures) (c .before .before .before .if3 .left)
     (first-finds _ _ _ (c .before .before .time-acc0-two-step2 .ensures) (c .if4 .taken)))))
 
 returns-5 : tie.Need-returns-5
-unfolding twoStep
 returns-5 c =
-    rw (← c .before .before .before .before .before .before .before .before .before .before .before .before .before .before .before .swapped .ensures)
+    two-steps _ _ _ _ (c .before .before .before .before .before .before .before .before .before .before .before .before .before .before .before .swapped .ensures) _
     (first-fails _ _ _ (c .before .before .before .before .before .before .before .before .before .before .before .before .before .before .time-none-two-step .ensures) (c .before .before .before .before .before .before .before .before .before .before .before .before .if1 .left)
     (first-fails _ _ _ (c .before .before .before .before .before .before .before .before .before .before .before .time-none-two-step2 .ensures) (c .before .before .before .before .before .before .before .before .before .if2 .left)
     (first-fails _ _ _ (c .before .before .before .before .before .before .before .before .time-acc0-two-step .ensures) (c .before .before .before .before .before .before .if3 .left)
@@ -46,9 +41,8 @@ returns-5 c =
     (first-finds _ _ _ (c .before .before .time-vel-two-step .ensures) (c .if5 .taken))))))
 
 returns-6 : tie.Need-returns-6
-unfolding twoStep
 returns-6 c =
-    rw (← c .before .before .before .before .before .before .before .before .before .before .before .before .before .before .before .before .before .before .swapped .ensures)
+    two-steps _ _ _ _ (c .before .before .before .before .before .before .before .before .before .before .before .before .before .before .before .before .before .before .swapped .ensures) _
     (first-fails _ _ _ (c .before .before .before .before .before .before .before .before .before .before .before .before .before .before .before .before .before .time-none-two-step .ensures) (c .before .before .before .before .before .before .before .before .before .before .before .before .before .before .before .if1 .left)
     (first-fails _ _ _ (c .before .before .before .before .before .before .before .before .before .before .before .before .before .before .time-none-two-step2 .ensures) (c .before .before .before .before .before .before .before .before .before .before .before .before .if2 .left)
     (first-fails _ _ _ (c .before .before .before .before .before .before .before .before .before .before .before .time-acc0-two-step .ensures) (c .before .before .before .before .before .before .before .before .before .if3 .left)
@@ -57,9 +51,8 @@ returns-6 c =
     (first-finds _ _ _ (c .before .before .time-vel-two-step2 .ensures) (c .if6 .taken)))))))
 
 returns-7 : tie.Need-returns-7
-unfolding twoStep
 returns-7 c =
-    rw (← c .before .before .before .before .before .before .before .before .before .before .before .before .before .before .before .before .before .before .before .before .before .swapped .ensures)
+    two-steps _ _ _ _ (c .before .before .before .before .before .before .before .before .before .before .before .before .before .before .before .before .before .before .before .before .before .swapped .ensures) _
     (first-fails _ _ _ (c .before .before .before .before .before .before .before .before .before .before .before .before .before .before .before .before .before .before .before .before .time-none-two-step .ensures) (c .before .before .before .before .before .before .before .before .before .before .before .before .before .before .before .before .before .before .if1 .left)
     (first-fails _ _ _ (c .before .before .before .before .before .before .before .before .before .before .before .before .before .before .before .before .before .time-none-two-step2 .ensures) (c .before .before .before .before .before .before .before .before .before .before .before .before .before .before .before .if2 .left)
     (first-fails _ _ _ (c .before .before .before .before .before .before .before .before .before .before .before .before .before .before .time-acc0-two-step .ensures) (c .before .before .before .before .before .before .before .before .before .before .before .before .if3 .left)
@@ -69,9 +62,8 @@ returns-7 c =
     (first-finds _ _ _ (c .before .before .time-acc1-vel-two-step .ensures) (c .if7 .taken))))))))
 
 returns-8 : tie.Need-returns-8
-unfolding twoStep
 returns-8 c =
-    rw (← c .before .before .before .before .before .before .before .before .before .before .before .before .before .before .before .before .before .before .before .before .before .before .swapped .ensures)
+    two-steps _ _ _ _ (c .before .before .before .before .before .before .before .before .before .before .before .before .before .before .before .before .before .before .before .before .before .before .swapped .ensures) _
     (first-fails _ _ _ (c .before .before .before .before .before .before .before .before .before .before .before .before .before .before .before .before .before .before .before .before .before .time-none-two-step .ensures) (c .before .before .before .before .before .before .before .before .before .before .before .before .before .before .before .before .before .before .before .if1 .left)
     (first-fails _ _ _ (c .before .before .before .before .before .before .before .before .before .before .before .before .before .before .before .before .before .before .time-none-two-step2 .ensures) (c .before .before .before .before .before .before .before .before .before .before .before .before .before .before .before .before .if2 .left)
     (first-fails _ _ _ (c .before .before .before .before .before .before .before .before .before .before .before .before .before .before .before .time-acc0-two-step .ensures) (c .before .before .before .before .before .before .before .before .before .before .before .before .before .if3 .left)
