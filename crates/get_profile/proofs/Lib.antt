@@ -6,3 +6,4 @@ pub mod StageLaws
 pub mod SearchLaws
 pub mod AnswerLaws
 pub mod CheckCounts
+pub mod RefusalLaws

@@ -17,6 +17,7 @@ use Rattle.phase_times.specs.GetProfileTests.{hasZeroLimit, endsAtRest, pointsU
 use Rattle.phase_times.specs.TimeAllSingleStep.{startsMoving, startsAccelerated}
 use Rattle.phase_times.specs.declared.constants.Constants.{Constants}
 use Rattle.trees.specs.Tree.{Tree, done, bind, run, AllNo}
+use Rattle.trees.specs.InTurn.{EachNo}
 use Rattle.candidates.specs.Try.{Try, passes}
 use Rattle.candidates.specs.List.{slot, freshList}
 use Rattle.candidates.specs.declared.Candidates.{Candidates}
@@ -88,17 +89,21 @@ getProfileAnswer input m = run passes (getProfile input m)
 
 -- ---- what is said of the tries
 
--- all tries, in the order in which they are asked where each is refused
+-- those of the first search
 module _ (start : Start) (target : Target) (k : Constants) where
   abbrev pub firstTries : (ends-at-rest rests-at-target : Bool) → Limits → List Try
   firstTries true true m = stageTries start target k (towardsTarget k m) itselfOrder
   firstTries true false m = stageTries start target k (towardsTarget k m) restingOrder
   firstTries false rests-at-target m = stageTries start target k m movingOrder
 
-  unfoldable pub allTries : Limits → List Try
-  allTries m =
-      cond (hasZeroLimit m) (singleStepTries start target k m)
-      (firstTries (endsAtRest target) (restsAtTarget start k) m ++ stageTries start target k m twoStepOrder)
+-- all of them, in the order in which they are asked where each is refused
+unfoldable pub allTries : Profile → Limits → List Try
+allTries input m =
+    let start = startOf input in
+    let target = targetOf input in
+    let k = constantsOf start target m in
+    cond (hasZeroLimit m) (singleStepTries start target k m)
+    (firstTries start target k (endsAtRest target) (restsAtTarget start k) m ++ stageTries start target k m twoStepOrder)
 
 -- the limits of a move as they are, or for the opposite direction
 abbrev pub EitherWay : Limits → Limits → Type 0
@@ -120,6 +125,10 @@ pub record TryBetween (start : Start) (target : Target) (m : Limits) (x : Try) :
 -- no try that is asked is accepted
 abbrev pub NoneAccepted : Profile → Limits → Type 0
 NoneAccepted input m = AllNo passes (getProfile input m)
+
+-- each of all tries is refused
+abbrev pub EachRefused : Profile → Limits → Type 0
+EachRefused input m = EachNo passes (allTries input m)
 
 -- what the families find
 abbrev pub foundFor : Profile → Limits → Candidates

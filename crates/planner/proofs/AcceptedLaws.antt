@@ -10,13 +10,13 @@ use Rattle.profile.specs.declared.Target.{Target}
 use Rattle.profile.specs.declared.ControlSigns.the-variants.{UDDU}
 use Rattle.profile_check.proofs.Accepted.{Accepted, accepts-tells}
 use Rattle.candidates.specs.Try.{Try, passes, profileOf}
-use Rattle.candidates.proofs.CheckLaws.{start-of, target-of, brake-of, accel-of}
+use Rattle.candidates.proofs.CheckLaws.{start-of, target-of, brake-of, accel-of, checked-again}
 use Rattle.replay.specs.Replay.{storedRows}
 use Rattle.replay.specs.Promise.{EndsAt}
 use Rattle.replay.proofs.CheckedReplay.{ProfileFits, none-stored, accepted-ends-at}
 use Rattle.get_profile.proofs.AnswerLaws.{AcceptedFor}
 use Rattle.planner.specs.Plan.{inputOf}
-use Rattle.planner.specs.Promise.{Arrives, OfMove}
+use Rattle.planner.specs.Promise.{Arrives, OfMove, CheckedFor}
 use Rattle.planner.specs.declared.Move.{Move}
 
 -- the numbers of a profile are doubles
@@ -46,7 +46,7 @@ pub passed-tells : (brake accel : Float) (y : Try) → passes y ≡ true → Acc
 unfolding passes profileOf withBoundary emptyProfile
 passed-tells brake accel y h = accepts-tells (withBoundary emptyProfile (y .start) (y .target) brake accel) (y .t) UDDU (y .reached) false (y .jf) (y .limits) (rw h tt)
 
-module _ (x : Move) (q : Profile) (h : AcceptedFor (inputOf x) q) where
+module _ (x : Move) (q : Profile) (h : AcceptedFor (inputOf x) (x .limits) q) where
   pub accepted-tells : Accepted q false (h .x .jf) (h .x .limits)
   accepted-tells = rw (h .made-is) (passed-tells (inputOf x .brake) (inputOf x .accel) (h .x) (h .passed))
 
@@ -57,6 +57,16 @@ module _ (x : Move) (q : Profile) (h : AcceptedFor (inputOf x) q) where
         target-is = ap targetOf (h .made-is) ∙ target-of _ _ (h .x) ∙ h .is-of .target-is ∙ input-target x;
         brake-is = ap (λ (r : Profile). r .brake) (h .made-is) ∙ brake-of _ _ (h .x) ∙ input-brake x;
         accel-is = ap (λ (r : Profile). r .accel) (h .made-is) ∙ accel-of _ _ (h .x) ∙ input-accel x;
+      }
+
+  pub checked-for : CheckedFor x q
+  checked-for =
+      record {
+        limits = h .x .limits;
+        jf = h .x .jf;
+        limits-are = h .is-of .limits-are;
+        jerk-is = h .is-of .jerk-is;
+        checked-is = rw (h .made-is) (checked-again (inputOf x .brake) (inputOf x .accel) (h .x) (h .passed));
       }
 
   pub arrives : OfDoubles q → Arrives x q

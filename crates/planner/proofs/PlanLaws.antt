@@ -19,10 +19,10 @@ use Rattle.block.specs.declared.Answer.{Answer}
 use Rattle.get_profile.specs.GetProfile.{getProfileAnswer}
 use Rattle.get_profile.proofs.AnswerLaws.{AcceptedFor, answered}
 use Rattle.planner.specs.Plan.{finiteStart, finiteTarget, finiteLimits, finiteMove, wrongDuration, inputOf, planOf, 1e12ᶠ, Admitted}
-use Rattle.planner.specs.Promise.{Arrives, Promise, FiniteDuration, OfMove}
+use Rattle.planner.specs.Promise.{Arrives, Promise, FiniteDuration, OfMove, CheckedFor}
 use Rattle.planner.specs.declared.Move.{Move}
 use Rattle.planner.proofs.RefusalLaws.{admitted, admitted-answer}
-use Rattle.planner.proofs.AcceptedLaws.{OfDoubles, accepted-tells, of-move, arrives}
+use Rattle.planner.proofs.AcceptedLaws.{OfDoubles, accepted-tells, of-move, checked-for, arrives}
 use Rattle.planner.proofs.DurationLaws.{time, with-durations}
 
 -- ---- from one fact of a plan's profiles to another
@@ -57,12 +57,16 @@ module _ (x : Move) (accepted : planOf x .refusal ≡ 0) where
   answer-is : planOf x ≡ getProfileAnswer (inputOf x) (x .limits)
   answer-is = admitted-answer x passes-tests
 
-  accepted-each : Each (AcceptedFor (inputOf x)) (planOf x .block)
+  accepted-each : Each (AcceptedFor (inputOf x) (x .limits)) (planOf x .block)
   accepted-each = rw answer-is (answered (inputOf x) (x .limits) .each (rw answer-is at accepted))
 
   -- its profile, and the far profile of each stretch, has the move's start and target, and its durations
   pub plan-of-move : Each (OfMove x) (planOf x .block)
   plan-of-move = each-with {P = λ q. Unit {0}} (λ q _ h. of-move x q h) (planOf x .block) tt tt tt accepted-each
+
+  -- it is what the check makes of its times, with the move's limits in either direction
+  pub plan-checked : Each (CheckedFor x) (planOf x .block)
+  plan-checked = each-with {P = λ q. Unit {0}} (λ q _ h. checked-for x q h) (planOf x .block) tt tt tt accepted-each
 
   -- and ends at the target
   pub plan-arrives : PlanOfDoubles (planOf x .block) → Each (Arrives x) (planOf x .block)
