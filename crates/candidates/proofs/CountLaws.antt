@@ -7,7 +7,7 @@ use native.Mathlib.Nat.{eq-or-lt-of-le, le-of-eq}
 use native.Mathlib.Omega.{arith}
 use borrow.Author.Tests.{ltb-true, ltb-false}
 use lib.Dec.{ltb}
-use lib.ListN.{length, getD, set, length-set}
+use lib.ListN.{length, set, length-set}
 use lib.Seq.{getD-set-same, getD-set-other}
 use Rattle.profile.specs.Boundary.{emptyProfile, withBoundary, boundaryFrom}
 use Rattle.profile.specs.declared.Profile.{Profile}
@@ -97,11 +97,11 @@ unfolding added
 added-sized c x s = stored-sized c (made c x) s
 
 -- ---- and at least one
-pub added-counts : (c : Candidates) (x : Try) → added c x .«current_index» ≡ 0 → ⊥
+pub added-counts : (c : Candidates) (x : Try) → 0 < added c x .«current_index»
 unfolding added
-added-counts c x h = by (ltb (c .«current_index») 5) refl
+added-counts c x = by (ltb (c .«current_index») 5) refl
   where
-    by : (b : Bool) → ltb (c .«current_index») 5 ≡ b → ⊥
+    by : (b : Bool) → ltb (c .«current_index») 5 ≡ b → 0 < stored c (made c x) .«current_index»
     by true e = omega (arith, index-below c (made c x) (ltb-true (c .«current_index») 5 e))
     by false e = omega (arith, ltb-false (c .«current_index») 5 e, index-above c (made c x) (ltb-false (c .«current_index») 5 e))
 

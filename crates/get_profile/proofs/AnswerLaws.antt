@@ -20,7 +20,7 @@ use Rattle.phase_times.specs.GetProfileTests.{hasZeroLimit, endsAtRest, restsAt
 use Rattle.phase_times.specs.TimeAllSingleStep.{startsMoving, startsAccelerated}
 use Rattle.phase_times.specs.declared.constants.Constants.{Constants}
 use Rattle.trees.specs.Tree.{run}
-use Rattle.candidates.specs.Try.{Try, passes}
+use Rattle.candidates.specs.Try.{passes}
 use Rattle.candidates.specs.List.{slot, freshList}
 use Rattle.candidates.specs.Counted.{AcceptedOf, Sound}
 use Rattle.candidates.specs.declared.Candidates.{Candidates}
@@ -36,7 +36,8 @@ use Rattle.block.specs.declared.Answer.{Answer}
 use Rattle.block.proofs.MemberLaws.{alone-each, from-each, selected-each, selected-duration, refused-empty}
 use Rattle.block.proofs.RefusalLaws.{selected-refusal}
 use Rattle.get_profile.specs.Stages.{Stage, limitsOf, itselfOrder, restingOrder, movingOrder, twoStepOrder, stopsOf, stageOf, stagesOf}
-use Rattle.get_profile.specs.GetProfile.{EitherWay, TryBetween, resting, moving, twoStep, towardsTarget, firstSearch, tryFamilies, afterPassing, singleStepAnswer, selectedFrom, getProfileAnswer, foundFor}
+use Rattle.get_profile.specs.GetProfile.{EitherWay, TryBetween, resting, moving, twoStep, towardsTarget, firstSearch}
+use Rattle.get_profile.specs.GetProfile.{tryFamilies, afterPassing, singleStepAnswer, selectedFrom, getProfileAnswer, foundFor}
 use Rattle.get_profile.proofs.WayLaws.{way-of, towards}
 use Rattle.get_profile.proofs.FamiliesLaws.{Keeps, Every, none, also, first-keeps, each-keeps}
 use Rattle.get_profile.proofs.StageLaws.{tries-bounded, every-stage}
@@ -140,7 +141,8 @@ module _ (input : Profile) (m : Limits) where
   searched z = selection-answered input m _ (families-kept (startOf input) (targetOf input) m z k (input .brake) (input .accel) (freshList input) (fresh-sound input _))
 
   -- the path works on the input's boundary
-  jerkless : hasZeroLimit m ≡ true → (q : Profile) → q .brake ≡ input .brake → q .accel ≡ input .accel → {r : Profile} → AcceptedOf (TryWith (startOf input) (targetOf input) 0ᶠ m) (q .brake) (q .accel) r → AcceptedFor input m r
+  jerkless : hasZeroLimit m ≡ true → (q : Profile) → q .brake ≡ input .brake → q .accel ≡ input .accel → {r : Profile}
+      → AcceptedOf (TryWith (startOf input) (targetOf input) 0ᶠ m) (q .brake) (q .accel) r → AcceptedFor input m r
   jerkless z q eb ea h =
       record {
         x = h .x;
@@ -150,7 +152,10 @@ module _ (input : Profile) (m : Limits) where
       }
 
   jerkless-step : hasZeroLimit m ≡ true → Answered input m (singleStepAnswer (startOf input) (run passes (timeAllSingleStep (boundaryFrom emptyProfile input) (startOf input) (targetOf input) k m)))
-  jerkless-step z = single-step-answered input m (startOf input) _ (λ e. jerkless z (boundaryFrom emptyProfile input) (from-brake emptyProfile input) (from-accel emptyProfile input) (single-step-accepted (boundaryFrom emptyProfile input) (startOf input) (targetOf input) k m e))
+  jerkless-step z =
+      let q = boundaryFrom emptyProfile input in
+      single-step-answered input m (startOf input) _
+      (λ e. jerkless z q (from-brake emptyProfile input) (from-accel emptyProfile input) (single-step-accepted q (startOf input) (targetOf input) k m e))
 
   pub answered : Answered input m (getProfileAnswer input m)
   answered = go (hasZeroLimit m) refl

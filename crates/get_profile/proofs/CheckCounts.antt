@@ -1,6 +1,6 @@
 -- How many checks a plan makes: at most 2 where j_max, a_max or a_min is 0, at most 30 for a rest that is its own target, and never more than 54. Assumes nothing.
 use Prim.Native.Nat.{ℕ, _+_}
-use mathlib.Core.Path.{_≡_, sym, ap, subst}
+use mathlib.Core.Path.{_≡_}
 use mathlib.Core.Bool.{Bool, true, false}
 use Rattle.profile.specs.Boundary.{startOf, targetOf, emptyProfile, boundaryFrom}
 use Rattle.profile.specs.declared.Profile.{Profile}
@@ -10,11 +10,9 @@ use Rattle.profile.specs.declared.Limits.{Limits}
 use Rattle.phase_times.specs.Constants.{constantsOf}
 use Rattle.phase_times.specs.GetProfileTests.{hasZeroLimit, endsAtRest, restsAtTarget}
 use Rattle.phase_times.specs.declared.constants.Constants.{Constants}
-use Rattle.trees.specs.Tree.{Tree, AtMost, ended}
+use Rattle.trees.specs.Tree.{AtMost, ended}
 use Rattle.trees.proofs.TreeLaws.{at-most-more, at-most-bind}
-use Rattle.candidates.specs.Try.{Try}
 use Rattle.candidates.specs.List.{freshList}
-use Rattle.block.specs.declared.Answer.{Answer}
 use Rattle.position_third_step1.proofs.FamilyLaws.{single-step-at-most}
 use Rattle.get_profile.specs.Stages.{itselfOrder, restingOrder, movingOrder, twoStepOrder}
 use Rattle.get_profile.specs.GetProfile.{resting, moving, twoStep, towardsTarget, firstSearch, tryFamilies, getProfileBy, getProfile}

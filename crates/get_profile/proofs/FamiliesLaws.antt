@@ -6,11 +6,11 @@ use mathlib.Core.List.{List, [], _∷_, _++_}
 use mathlib.Core.Logic.{_↔_}
 use native.Mathlib.Omega.{arith}
 use borrow.Author.Tests.{lt-ltb, le-ltb}
-use Rattle.trees.specs.Tree.{done, bind, run, questions, AtMost, ended, AllNo}
-use Rattle.trees.proofs.TreeLaws.{run-bind, questions-bind, all-no-bind, at-most-bind}
+use Rattle.trees.specs.Tree.{bind, run, questions, AtMost, ended, AllNo, Over, StopsAtYes}
+use Rattle.trees.proofs.TreeLaws.{run-bind, questions-bind, all-no-bind, stops-bind, at-most-bind}
 use Rattle.candidates.specs.Try.{Try, passes}
 use Rattle.candidates.specs.declared.Candidates.{Candidates}
-use Rattle.position_third_step1.specs.Plan.{Plan, found}
+use Rattle.position_third_step1.specs.Plan.{found}
 use Rattle.get_profile.specs.Families.{Family, isFound, unlessFound, eachOf, firstOf}
 
 -- f is the first family, d the list that it leaves, fs are the families after it
@@ -100,6 +100,41 @@ pub each-none-found : {fs : List Family} → Every NoneFound fs → NoneFound (e
 unfolding eachOf run
 each-none-found none c = (λ e. (e, tt), λ z. z .0)
 each-none-found (also {f} {fs} h hs) c = then-none-found f (eachOf fs) h (each-none-found hs) c
+
+-- ---- up to the first success
+
+-- nothing more is asked after the first try that is accepted, and a profile counts then
+abbrev pub SomeCount : Candidates → Type 0
+SomeCount c = 0 < c .«current_index»
+
+abbrev pub StopsAtFirst : Family → Type 0
+StopsAtFirst f = (c : Candidates) → StopsAtYes SomeCount (f c)
+
+unless-over : (f : Family) (c : Candidates) → SomeCount c → Over SomeCount (unlessFound (isFound c) f c)
+unfolding unlessFound
+unless-over f c h = rw (lt-ltb 0 (c .«current_index») h) h
+
+unless-stops : (b : Bool) (f : Family) → StopsAtFirst f → StopsAtFirst (λ c. unlessFound b f c)
+unfolding unlessFound
+unless-stops true f h c = tt
+unless-stops false f h c = h c
+
+pub first-stops : {fs : List Family} → Every StopsAtFirst fs → StopsAtFirst (firstOf fs)
+unfolding firstOf
+first-stops none c = tt
+first-stops (also {f} {fs} h hs) c =
+    stops-bind SomeCount SomeCount (λ d. unlessFound (isFound d) (firstOf fs) d) (unless-over (firstOf fs))
+    (λ d. unless-stops (isFound d) (firstOf fs) (first-stops hs) d) (f c) (h c)
+
+-- ---- all of them, whatever the answers
+pub each-asked : (answer : Try → Bool) (f : Family) (fs : List Family) {xs ys : List Try}
+    → ((c : Candidates) → questions answer (f c) ≡ xs) → ((c : Candidates) → questions answer (eachOf fs c) ≡ ys) → (c : Candidates) → questions answer (eachOf (f ∷ fs) c) ≡ xs ++ ys
+unfolding eachOf
+each-asked answer f fs hf hs c = questions-bind answer (f c) (eachOf fs) ∙ rw (hf c, hs (run answer (f c)))
+
+pub none-asked : (answer : Try → Bool) (c : Candidates) → questions answer (eachOf [] c) ≡ []
+unfolding eachOf questions
+none-asked answer c = refl
 
 -- ---- what is asked where every answer is no
 abbrev pub refuse : Try → Bool

@@ -6,4 +6,5 @@ pub mod StageLaws
 pub mod SearchLaws
 pub mod AnswerLaws
 pub mod CheckCounts
+pub mod AskLaws
 pub mod RefusalLaws

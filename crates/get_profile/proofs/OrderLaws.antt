@@ -1,6 +1,6 @@
 -- Which family is tried first, second, and so on: call by call, and in document 01's words. Assumes nothing.
 use mathlib.Core.Path.{_≡_, refl, sym, ap, _∙_}
-use mathlib.Core.Bool.{Bool, true, false}
+use mathlib.Core.Bool.{true, false}
 use mathlib.Core.List.{List, [], _∷_, _++_, map}
 use Rattle.profile.specs.Limits.{swappedLimits}
 use Rattle.profile.specs.declared.Start.{Start}
@@ -14,7 +14,8 @@ use Rattle.position_third_step1.specs.TimeAcc0Acc1.{timeAcc0Acc1}
 use Rattle.position_third_step1.specs.TimeAllNoneAcc0Acc1.{timeAllNoneAcc0Acc1}
 use Rattle.position_third_step1.specs.TwoStep.{timeAcc1VelTwoStep, timeAcc0TwoStep, timeVelTwoStep, timeNoneTwoStep}
 use Rattle.get_profile.specs.Families.{Family, eachOf, firstOf}
-use Rattle.get_profile.specs.Stages.{FamilyName, all-vel, none-acc0-acc1, acc0-acc1, none-two-step, acc0-two-step, vel-two-step, acc1-vel-two-step, Way, given, swapped, Stage, itselfOrder, restingOrder, movingOrder, twoStepOrder}
+use Rattle.get_profile.specs.Stages.{FamilyName, all-vel, none-acc0-acc1, acc0-acc1, none-two-step, acc0-two-step, vel-two-step, acc1-vel-two-step}
+use Rattle.get_profile.specs.Stages.{Way, given, swapped, Stage, itselfOrder, restingOrder, movingOrder, twoStepOrder}
 use Rattle.get_profile.specs.GetProfile.{towardsTarget, resting, moving, twoStep, firstSearch}
 
 -- ---- in document 01's words

@@ -1,8 +1,7 @@
--- Exactly when `get_profile` answers 4 and 5, and what is asked before it answers 4. Assumes nothing.
+-- Exactly when `get_profile` answers 4 and 5. Assumes nothing.
 use Prim.Native.Nat.{ℕ, zero}
-use mathlib.Core.Path.{_≡_, refl, sym, ap, _∙_, subst}
+use mathlib.Core.Path.{_≡_, refl, sym, _∙_, subst}
 use mathlib.Core.Bool.{Bool, true, false, cond, _&&_, true≢false, false≢true}
-use mathlib.Core.List.{List, [], _++_, append-nil}
 use mathlib.Core.Logic.{_↔_, Iff·symm, Iff·trans}
 use native.Mathlib.Omega.{arith}
 use borrow.Author.Tests.{eqb-true, eq-eqb, ne-eqb, le-ltb}
@@ -16,23 +15,22 @@ use Rattle.profile_check.specs.declared.Checked.{Checked}
 use Rattle.phase_times.specs.Constants.{constantsOf}
 use Rattle.phase_times.specs.GetProfileTests.{hasZeroLimit, endsAtRest, restsAtTarget}
 use Rattle.phase_times.specs.declared.constants.Constants.{Constants}
-use Rattle.trees.specs.Tree.{Tree, done, bind, run, questions, AllNo}
-use Rattle.trees.proofs.TreeLaws.{questions-bind, all-no-bind, all-no-questions}
-use Rattle.trees.proofs.InTurnLaws.{asks-each}
+use Rattle.trees.specs.Tree.{Tree, done, bind, run, AllNo}
+use Rattle.trees.proofs.TreeLaws.{all-no-bind, all-no-questions}
 use Rattle.candidates.specs.Try.{Try, passes}
 use Rattle.candidates.specs.List.{slot, freshList}
-use Rattle.candidates.specs.declared.Candidates.{Candidates}
-use Rattle.position_third_step1.specs.Plan.{found}
-use Rattle.position_third_step1.specs.TimeAllSingleStep.{acceptance, refusal, singleStepTries, timeAllSingleStep}
+use Rattle.position_third_step1.specs.TimeAllSingleStep.{refusal, timeAllSingleStep}
 use Rattle.position_third_step1.proofs.FamilyLaws.{single-step-none}
 use Rattle.block.specs.Blocks.{planned, refused}
 use Rattle.block.specs.Selection.{removal, selected}
 use Rattle.block.specs.declared.Answer.{Answer}
 use Rattle.block.proofs.RefusalLaws.{selected-refusal}
-use Rattle.get_profile.specs.Stages.{itselfOrder, restingOrder, movingOrder, twoStepOrder, stageTries}
-use Rattle.get_profile.specs.GetProfile.{resting, moving, twoStep, towardsTarget, firstSearch, tryFamilies, singleStepAnswer, selectedFrom, getProfileBy, getProfile, getProfileAnswer, firstTries, allTries, NoneAccepted, EachRefused, foundFor, FourStay}
-use Rattle.get_profile.proofs.FamiliesLaws.{none, also, NoneFound, first-none-found, each-none-found, refuse, Asks, first-asks, none-asks-first}
-use Rattle.get_profile.proofs.StageLaws.{stages-none-found, first-stages-ask, each-stages-ask}
+use Rattle.get_profile.specs.Stages.{itselfOrder, restingOrder, movingOrder, twoStepOrder}
+use Rattle.get_profile.specs.GetProfile.{resting, moving, twoStep, towardsTarget, firstSearch, tryFamilies, singleStepAnswer}
+use Rattle.get_profile.specs.GetProfile.{getProfileBy, getProfile, getProfileAnswer, NoneAccepted, EachRefused, foundFor, FourStay}
+use Rattle.get_profile.proofs.FamiliesLaws.{none, also, NoneFound, first-none-found, each-none-found}
+use Rattle.get_profile.proofs.StageLaws.{stages-none-found}
+use Rattle.get_profile.proofs.AskLaws.{nothing-counts, tree-is, asked-in-order}
 use Rattle.get_profile.proofs.SearchLaws.{single-step-is, searched-is}
 
 -- ---- selection, and the single-step path
@@ -64,8 +62,10 @@ module _ (s : ℕ → Profile) (n : ℕ) where
 
   selected-5 : (selected s n .refusal ≡ 5) ↔ ((n ≡ 4) × (removal s ≡ 0))
   selected-5 =
-      let k = five-by (eqb n 0) (ltb 5 n) (eqb n 4 && eqb (removal s) 0) in
-      (λ h. let w = both (eqb n 4) (eqb (removal s) 0) (k .0 (sym (selected-refusal s n) ∙ h) .2) in (eqb-true n 4 (w .0), eqb-true (removal s) 0 (w .1)), λ z. selected-refusal s n ∙ k .1 (ne-eqb n 0 (λ e. omega (arith, z .0)), le-ltb 5 n (omega (arith, z .0)), rw (eq-eqb n 4 (z .0), eq-eqb (removal s) 0 (z .1)) refl))
+      let k = five-by (eqb n 0) (ltb 5 n) (eqb n 4 && eqb (removal s) 0) in (
+        λ h. let w = both (eqb n 4) (eqb (removal s) 0) (k .0 (sym (selected-refusal s n) ∙ h) .2) in (eqb-true n 4 (w .0), eqb-true (removal s) 0 (w .1)),
+        λ z. selected-refusal s n ∙ k .1 (ne-eqb n 0 (λ e. omega (arith, z .0)), le-ltb 5 n (omega (arith, z .0)), rw (eq-eqb n 4 (z .0), eq-eqb (removal s) 0 (z .1)) refl),
+      )
 
 single-step-4 : (start : Start) (d : Checked) → (singleStepAnswer start d .refusal ≡ 4) ↔ (d .ok ≡ false)
 unfolding singleStepAnswer
@@ -99,28 +99,9 @@ module _ (start : Start) (target : Target) (k : Constants) where
   unfolding tryFamilies
   families-none-found m = first-none-found (also (search-none-found (endsAtRest target) (restsAtTarget start k) m) (also (two-step-none-found m) none))
 
-  -- ---- what they ask where every answer is no
-  search-asks : (at-rest at-target : Bool) (m : Limits) → Asks (firstSearch start target k at-rest at-target m) (firstTries start target k at-rest at-target m)
-  unfolding firstSearch resting moving
-  search-asks true true m = first-stages-ask start target k true (towardsTarget k m) itselfOrder
-  search-asks true false m = first-stages-ask start target k true (towardsTarget k m) restingOrder
-  search-asks false at-target m = each-stages-ask start target k false m movingOrder
-
-  two-step-asks : (m : Limits) → Asks (twoStep start target k m) (stageTries start target k m twoStepOrder)
-  unfolding twoStep
-  two-step-asks m = first-stages-ask start target k true m twoStepOrder
-
-  families-ask : (m : Limits) → Asks (tryFamilies start target k m) (firstTries start target k (endsAtRest target) (restsAtTarget start k) m ++ (stageTries start target k m twoStepOrder ++ []))
-  unfolding tryFamilies
-  families-ask m = first-asks _ _ (search-asks (endsAtRest target) (restsAtTarget start k) m) (first-asks _ _ (two-step-asks m) none-asks-first)
-
 -- ---- every answer
 end-all-no : {S : Type 0} (t : Tree Try Bool S) (f : S → Answer) → AllNo passes (bind t (λ d. done (f d))) ↔ AllNo passes t
 end-all-no t f = let e = all-no-bind passes t (λ d. done (f d)) in (λ h. e .0 h .0, λ h. e .1 (h, tt))
-
-end-asks : {S : Type 0} (t : Tree Try Bool S) (f : S → Answer) → questions refuse (bind t (λ d. done (f d))) ≡ questions refuse t
-unfolding questions
-end-asks t f = questions-bind refuse t (λ d. done (f d)) ∙ append-nil _
 
 module _ (input : Profile) (m : Limits) where
   abbrev k : Constants
@@ -129,16 +110,8 @@ module _ (input : Profile) (m : Limits) where
   abbrev path : Tree Try Bool Checked
   path = timeAllSingleStep (boundaryFrom emptyProfile input) (startOf input) (targetOf input) k m
 
-  tree-is : {zero-limit : Bool} → hasZeroLimit m ≡ zero-limit → getProfile input m ≡ getProfileBy zero-limit input m
-  unfolding getProfile
-  tree-is e = ap (λ (b : Bool). getProfileBy b input m) e
-
   none-accepted-by : {zero-limit : Bool} → hasZeroLimit m ≡ zero-limit → AllNo passes (getProfileBy zero-limit input m) ↔ NoneAccepted input m
-  none-accepted-by e = (λ h. subst (AllNo passes) (sym (tree-is e)) h, λ h. subst (AllNo passes) (tree-is e) h)
-
-  nothing-counts : freshList input .«current_index» ≡ 0
-  unfolding freshList
-  nothing-counts = refl
+  none-accepted-by e = (λ h. subst (AllNo passes) (sym (tree-is input m e)) h, λ h. subst (AllNo passes) (tree-is input m e) h)
 
   -- 4 exactly where no try that is asked is accepted
   pub refused-4 : (getProfileAnswer input m .refusal ≡ 4) ↔ NoneAccepted input m
@@ -148,11 +121,13 @@ module _ (input : Profile) (m : Limits) where
       go : (zero-limit : Bool) → hasZeroLimit m ≡ zero-limit → (getProfileAnswer input m .refusal ≡ 4) ↔ NoneAccepted input m
       go true e =
           rw (single-step-is input m e)
-          (Iff·trans (single-step-4 (startOf input) (run passes path)) (Iff·trans (single-step-none (boundaryFrom emptyProfile input) (startOf input) (targetOf input) k m) (Iff·trans (Iff·symm (end-all-no path _)) (none-accepted-by e))))
+          (Iff·trans (single-step-4 (startOf input) (run passes path))
+          (Iff·trans (single-step-none (boundaryFrom emptyProfile input) (startOf input) (targetOf input) k m) (Iff·trans (Iff·symm (end-all-no path _)) (none-accepted-by e))))
       go false e =
           let f = families-none-found (startOf input) (targetOf input) k m (freshList input) in
           rw (searched-is input m e)
-          (Iff·trans (selected-4 (slot (foundFor input m)) (foundFor input m .«current_index»)) (Iff·trans (λ h. f .0 h .1, λ h. f .1 (nothing-counts, h)) (Iff·trans (Iff·symm (end-all-no _ _)) (none-accepted-by e))))
+          (Iff·trans (selected-4 (slot (foundFor input m)) (foundFor input m .«current_index»))
+          (Iff·trans (λ h. f .0 h .1, λ h. f .1 (nothing-counts input, h)) (Iff·trans (Iff·symm (end-all-no _ _)) (none-accepted-by e))))
 
   -- 5 exactly where the families are tried, four profiles count and no removal rule applies
   pub refused-5 : (getProfileAnswer input m .refusal ≡ 5) ↔ FourStay input m
@@ -164,15 +139,6 @@ module _ (input : Profile) (m : Limits) where
           let f = selected-5 (slot (foundFor input m)) (foundFor input m .«current_index») in
           rw (searched-is input m e) (λ h. record { by-families = e; four = f .0 h .0; no-rule = f .0 h .1 }, λ h. f .1 (h .four, h .no-rule))
 
-  -- where every answer is no, all tries are asked, in this order
-  pub asked-in-order : questions refuse (getProfile input m) ≡ allTries input m
-  unfolding getProfileBy allTries
-  asked-in-order = go (hasZeroLimit m) refl
-    where
-      go : (zero-limit : Bool) → hasZeroLimit m ≡ zero-limit → questions refuse (getProfile input m) ≡ allTries input m
-      go true e = ap (questions refuse) (tree-is e) ∙ end-asks path _ ∙ asks-each acceptance true (refusal (boundaryFrom emptyProfile input)) (singleStepTries (startOf input) (targetOf input) k m) ∙ rw e
-      go false e = ap (questions refuse) (tree-is e) ∙ end-asks _ _ ∙ families-ask (startOf input) (targetOf input) k m (freshList input) nothing-counts .0 ∙ rw (e, append-nil)
-
-  -- so 4 exactly where each of them is refused
+  -- which is where each of all tries is refused
   pub refused-4-each : (getProfileAnswer input m .refusal ≡ 4) ↔ EachRefused input m
-  refused-4-each = rw (← asked-in-order) (Iff·trans refused-4 (all-no-questions passes (getProfile input m)))
+  refused-4-each = rw (← asked-in-order input m) (Iff·trans refused-4 (all-no-questions passes (getProfile input m)))

@@ -49,7 +49,9 @@ module _ (start : Start) (target : Target) (k : Constants) (m : Limits) (c : Can
 
     pub to-itself : at-target ≡ true → {r : Candidates} → r ≡ found (timeAllNoneAcc0Acc1 c start target k towards true) → r ≡ first
     unfolding firstSearch
-    to-itself g e = last-of-first (stageOf start target k true (towardsTarget k m) (none-acc0-acc1, given)) c (e ∙ ap (λ (m : Limits). found (timeAllNoneAcc0Acc1 c start target k m true)) em) ∙ sym (first-is g)
+    to-itself g e =
+        last-of-first (stageOf start target k true (towardsTarget k m) (none-acc0-acc1, given)) c
+        (e ∙ ap (λ (m : Limits). found (timeAllNoneAcc0Acc1 c start target k m true)) em) ∙ sym (first-is g)
 
     pub to-rest : at-target ≡ false → {r : Candidates} → r ≡ found (resting start target k towards c) → r ≡ first
     unfolding firstSearch

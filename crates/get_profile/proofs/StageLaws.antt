@@ -1,7 +1,7 @@
 -- What is common to all stages of a search. Assumes nothing.
 use Prim.Native.Nat.{ℕ, _+_}
-use mathlib.Core.Path.{_≡_}
-use mathlib.Core.Bool.{Bool}
+use mathlib.Core.Path.{_≡_, refl}
+use mathlib.Core.Bool.{Bool, true}
 use mathlib.Core.List.{List, [], _∷_}
 use Rattle.profile.specs.declared.Start.{Start}
 use Rattle.profile.specs.declared.Target.{Target}
@@ -11,10 +11,13 @@ use Rattle.trees.specs.InTurn.{Bounded}
 use Rattle.trees.proofs.InTurnLaws.{asks-each, stays}
 use Rattle.candidates.specs.List.{added}
 use Rattle.position_third_step1.specs.Plan.{TryWith}
-use Rattle.position_third_step1.proofs.FamilyLaws.{none-found, checks-at-most, all-vel-bounded, acc0-acc1-bounded, none-acc0-acc1-bounded, acc1-vel-two-step-bounded, acc0-two-step-bounded, vel-two-step-bounded, none-two-step-bounded}
+use Rattle.position_third_step1.proofs.FamilyLaws.{none-found, stops-at-first, checks-at-most, all-vel-bounded, acc0-acc1-bounded}
+use Rattle.position_third_step1.proofs.FamilyLaws.{none-acc0-acc1-bounded, acc1-vel-two-step-bounded, acc0-two-step-bounded, vel-two-step-bounded, none-two-step-bounded}
 use Rattle.get_profile.specs.Families.{Family, firstOf, eachOf}
-use Rattle.get_profile.specs.Stages.{FamilyName, all-vel, none-acc0-acc1, acc0-acc1, none-two-step, acc0-two-step, vel-two-step, acc1-vel-two-step, Stage, limitsOf, stopsOf, triesOf, stageOf, stagesOf, stageTries}
-use Rattle.get_profile.proofs.FamiliesLaws.{Every, none, also, NoneFound, Asks, first-asks, each-asks, none-asks-first, none-asks-each, AtMostFrom, first-at-most, each-at-most, no-first, no-each}
+use Rattle.get_profile.specs.Stages.{FamilyName, all-vel, none-acc0-acc1, acc0-acc1, none-two-step, acc0-two-step, vel-two-step, acc1-vel-two-step}
+use Rattle.get_profile.specs.Stages.{Stage, limitsOf, stopsOf, triesOf, stageOf, stagesOf, stageTries}
+use Rattle.get_profile.proofs.FamiliesLaws.{Every, none, also, NoneFound, StopsAtFirst, first-stops, Asks, first-asks}
+use Rattle.get_profile.proofs.FamiliesLaws.{each-asks, none-asks-first, none-asks-each, AtMostFrom, first-at-most, each-at-most, no-first, no-each}
 
 -- how many tries a family has at most, and the stages of an order together
 abbrev pub checksOf : FamilyName → ℕ
@@ -40,6 +43,19 @@ module _ (start : Start) (target : Target) (k : Constants) where
   tries-bounded acc0-two-step m = acc0-two-step-bounded start target k m
   tries-bounded vel-two-step m = vel-two-step-bounded start target k m
   tries-bounded acc1-vel-two-step m = acc1-vel-two-step-bounded start target k m
+
+  always-stops : (n : FamilyName) → stopsOf true n ≡ true
+  always-stops all-vel = refl
+  always-stops none-acc0-acc1 = refl
+  always-stops acc0-acc1 = refl
+  always-stops none-two-step = refl
+  always-stops acc0-two-step = refl
+  always-stops vel-two-step = refl
+  always-stops acc1-vel-two-step = refl
+
+  -- with `return_after_found` every stage stops at its first success
+  stage-stops : (m : Limits) (s : Stage) → StopsAtFirst (stageOf start target k true m s)
+  stage-stops m s c = rw (always-stops (s .0)) (stops-at-first c (triesOf start target k (s .0) (limitsOf (s .1) m)))
 
   module _ (return-after-found : Bool) (m : Limits) where
     -- what holds of every stage holds of all of an order
@@ -75,3 +91,6 @@ module _ (start : Start) (target : Target) (k : Constants) where
     pub each-stages-at-most : (order : List Stage) → AtMostFrom (checksIn order) (eachOf (stagesOf start target k return-after-found m order))
     each-stages-at-most [] = no-each
     each-stages-at-most (s ∷ ss) = each-at-most (checksIn ss) _ (stage-at-most s) (each-stages-at-most ss)
+
+  pub first-stages-stop : (m : Limits) (order : List Stage) → StopsAtFirst (firstOf (stagesOf start target k true m order))
+  first-stages-stop m order = first-stops (every-stage true m StopsAtFirst (stage-stops m) order)

@@ -40,7 +40,8 @@ pub record OfMove (x : Move) (q : Profile) : Type 0 where
   pub brake-is : q .brake ≡ x .brake
   pub accel-is : q .accel ≡ x .accel
 
--- the check makes the profile of its own boundary and times: with the move's limits, as they are or for the opposite direction, and at their jerk, or on the single-step path at jerk 0
+-- the check makes the profile of its own boundary and times: with the move's limits, as they are or for the opposite direction, and at their jerk,
+-- or on the single-step path at jerk 0
 pub record CheckedFor (x : Move) (q : Profile) : Type 0 where
   pub limits : Limits
   pub jf : Float

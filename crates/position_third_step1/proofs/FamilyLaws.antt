@@ -1,5 +1,5 @@
 -- What every family keeps, and how many checks it makes at most. Assumes nothing.
-use Prim.Native.Nat.{ℕ, suc, _+_, _≤_}
+use Prim.Native.Nat.{ℕ, suc, _+_, _≤_, _<_}
 use mathlib.Core.Path.{_≡_, refl, _∙_}
 use mathlib.Core.Bool.{Bool, true, false, cond, not, true≢false, false≢true}
 use mathlib.Core.List.{List, [], _∷_}
@@ -10,16 +10,15 @@ use lib.Ieee.{Float}
 use lib.ListN.{length}
 use Rattle.doubles.specs.Operators.{_≤ᶠ_}
 use Rattle.doubles.specs.Constants.{0ᶠ}
-use Rattle.elementary.specs.Functions.{sqrtOf}
 use Rattle.profile.specs.declared.Profile.{Profile}
 use Rattle.profile.specs.declared.Start.{Start}
 use Rattle.profile.specs.declared.Target.{Target}
 use Rattle.profile.specs.declared.Limits.{Limits}
 use Rattle.profile.specs.declared.ReachedLimits.{ReachedLimits}
 use Rattle.profile_check.specs.declared.Checked.{Checked}
-use Rattle.trees.specs.Tree.{run, AtMost, AllNo}
+use Rattle.trees.specs.Tree.{run, AtMost, AllNo, StopsAtYes}
 use Rattle.trees.specs.InTurn.{Bounded, none, one}
-use Rattle.trees.proofs.InTurnLaws.{finish-keeps, holds-after-no, finish-related, in-turn-at-most, bounded-more, bounded-le}
+use Rattle.trees.proofs.InTurnLaws.{finish-keeps, holds-after-no, finish-related, in-turn-at-most, in-turn-stops, bounded-more, bounded-le}
 use Rattle.candidates.specs.Try.{Try, passes}
 use Rattle.candidates.specs.List.{added}
 use Rattle.candidates.specs.Counted.{AcceptedOf, SameCounted, Sound}
@@ -27,12 +26,12 @@ use Rattle.candidates.specs.declared.Candidates.{Candidates}
 use Rattle.candidates.proofs.CheckLaws.{brake-of, accel-of}
 use Rattle.candidates.proofs.CountLaws.{added-counts, added-same}
 use Rattle.candidates.proofs.BoundaryLaws.{added-sound}
-use Rattle.phase_times.specs.TimeAcc0Acc1.{acc0Acc1Radicand, acc0Acc1H1, acc0Acc1H2, acc0Acc1H3, admitsAcc0Acc1Solution2, admitsAcc0Acc1Solution1}
+use Rattle.phase_times.specs.TimeAcc0Acc1.{acc0Acc1Radicand, admitsAcc0Acc1Solution2, admitsAcc0Acc1Solution1}
 use Rattle.phase_times.specs.TimeAllSingleStep.{changesAcceleration, startsAccelerated, startsMoving, startsAtTarget, hasPhase3, timesSingleStepSolution1, timesSingleStepSolution2}
 use Rattle.phase_times.specs.declared.constants.Constants.{Constants}
 use Rattle.phase_times_quartic.specs.RootRange.{isSkipped}
 use Rattle.roots.specs.List.{rootsOf}
-use Rattle.position_third_step1.specs.Plan.{Plan, found, tries, tryOf, TryWith, onlyIf}
+use Rattle.position_third_step1.specs.Plan.{found, tries, tryOf, TryWith, onlyIf}
 use Rattle.position_third_step1.specs.TimeAllVel.{allVelTries}
 use Rattle.position_third_step1.specs.TimeAcc0Acc1.{acc0Acc1Solutions, acc0Acc1Tries}
 use Rattle.position_third_step1.specs.TimeAllNoneAcc0Acc1.{noneRoots, acc0Roots, acc1Roots, triesFor, rootTries, noneAcc0Acc1Tries}
@@ -56,7 +55,11 @@ found-sound {G} {start} {target} {brake} {accel} stop c of b s =
 
 -- nothing counts at its end exactly where nothing did before it and no try is accepted
 pub none-found : (stop : Bool) (c : Candidates) (xs : List Try) → (found (tries stop c xs) .«current_index» ≡ 0) ↔ ((c .«current_index» ≡ 0) × AllNo passes (tries stop c xs))
-none-found stop c xs = holds-after-no passes added (λ d. d .«current_index» ≡ 0) added-counts stop c xs
+none-found stop c xs = holds-after-no passes added (λ d. d .«current_index» ≡ 0) (λ d x e. omega (arith, added-counts d x)) stop c xs
+
+-- with `return_after_found` nothing more is asked after the first success, and a profile counts then
+pub stops-at-first : (c : Candidates) (xs : List Try) → StopsAtYes (λ (d : Candidates). 0 < d .«current_index») (tries true c xs)
+stops-at-first c xs = in-turn-stops added (λ d. 0 < d .«current_index») added-counts c xs
 
 -- what it adds depends on no slot that doesn't count
 pub found-same : (stop : Bool) (c d : Candidates) (xs : List Try) → SameCounted c d → SameCounted (found (tries stop c xs)) (found (tries stop d xs))
@@ -164,6 +167,10 @@ module _ (q : Profile) (start : Start) (target : Target) (k : Constants) (m : Li
 
   pub single-step-refused : run passes (timeAllSingleStep q start target k m) .ok ≡ false → run passes (timeAllSingleStep q start target k m) .profile ≡ q
   single-step-refused = finish-keeps passes acceptance {P = Answered} accepted-answered true (refusal q) single-step-bounded refused-answered .no
+
+  -- it stops at its first success
+  pub single-step-stops : StopsAtYes (λ (d : Checked). d .ok ≡ true) (timeAllSingleStep q start target k m)
+  single-step-stops = in-turn-stops acceptance (λ d. d .ok ≡ true) (λ d x. unfold acceptance in refl) (refusal q) (singleStepTries start target k m)
 
   -- it says no exactly where no try is accepted
   pub single-step-none : (run passes (timeAllSingleStep q start target k m) .ok ≡ false) ↔ AllNo passes (timeAllSingleStep q start target k m)

@@ -10,7 +10,7 @@ use Rattle.profile.specs.declared.Start.{Start}
 use Rattle.profile.specs.declared.Target.{Target}
 use Rattle.profile.specs.declared.Limits.{Limits}
 use Rattle.profile.specs.declared.ReachedLimits.{ReachedLimits}
-use Rattle.profile.specs.declared.ReachedLimits.the-variants.{Acc0Acc1, Vel, Acc0, Acc1, Acc1Vel, None}
+use Rattle.profile.specs.declared.ReachedLimits.the-variants.{Vel, Acc0, Acc1, Acc1Vel, None}
 use Rattle.phase_times.specs.TimeAllVel.{tAcc1Radicand, timesAcc0Acc1Vel, timesAcc1Vel, timesAcc0Vel, timesVel}
 use Rattle.phase_times.specs.TimeAcc0Acc1.{admitsAcc0Acc1Solution2, admitsAcc0Acc1Solution1, timesAcc0Acc1Solution2, timesAcc0Acc1Solution1}
 use Rattle.phase_times.specs.TimeAllSingleStep.{hasPhase3, timesSingleStepSolution1, timesSingleStepSolution2}
@@ -86,7 +86,8 @@ module _ (start : Start) (target : Target) (k : Constants) (m : Limits) where
   names-for s [] xs = refl
   names-for s (t ∷ ts) xs = by (isSkipped (s .range) t) (triesFor start target k m s ts xs) (keptRoots (s .range) ts) (names-for s ts xs)
     where
-      by : (b : Bool) (rest : List Try) (kept : List Float) → names rest ≡ map (λ (u : Float). reachedBy (s .polynom)) kept ++ names xs → names (onlyIf (not b) (rootTry start target k m s t) rest) ≡ map (λ (u : Float). reachedBy (s .polynom)) (cond b kept (t ∷ kept)) ++ names xs
+      by : (b : Bool) (rest : List Try) (kept : List Float) → names rest ≡ map (λ (u : Float). reachedBy (s .polynom)) kept ++ names xs
+          → names (onlyIf (not b) (rootTry start target k m s t) rest) ≡ map (λ (u : Float). reachedBy (s .polynom)) (cond b kept (t ∷ kept)) ++ names xs
       by true rest kept e = e
       by false rest kept e = ap (λ (ns : List ReachedLimits). reachedBy (s .polynom) ∷ ns) e
 
@@ -94,6 +95,7 @@ module _ (start : Start) (target : Target) (k : Constants) (m : Limits) where
   names-of s xs e = names-for s (rootsOf (s .roots)) xs ∙ ap (λ (ns : List ReachedLimits). rootNames (reachedBy (s .polynom)) s ++ ns) e
 
   -- a try for each root that is kept: those of NONE, then of ACC0, then of ACC1
-  pub none-acc0-acc1-order : names (noneAcc0Acc1Tries start target k m) ≡ rootNames None (noneRoots start target k m) ++ (rootNames Acc0 (acc0Roots start target k m) ++ rootNames Acc1 (acc1Roots start target k m))
+  pub none-acc0-acc1-order : names (noneAcc0Acc1Tries start target k m)
+      ≡ rootNames None (noneRoots start target k m) ++ (rootNames Acc0 (acc0Roots start target k m) ++ rootNames Acc1 (acc1Roots start target k m))
   unfolding noneAcc0Acc1Tries noneRoots acc0Roots acc1Roots reachedBy
   none-acc0-acc1-order = names-of (noneRoots start target k m) _ (names-of (acc0Roots start target k m) _ (names-of (acc1Roots start target k m) [] refl ∙ append-nil _))

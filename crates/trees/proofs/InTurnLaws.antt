@@ -1,13 +1,13 @@
 -- Laws of questions asked in turn. Assumes nothing.
 use Prim.Native.Nat.{ℕ, zero, suc, _≤_}
 use mathlib.Core.Path.{_≡_, refl, sym, ap, _∙_}
-use mathlib.Core.Bool.{Bool, true, false, true≢false}
+use mathlib.Core.Bool.{Bool, true, false, cond, _&&_, true≢false}
 use mathlib.Core.List.{List, [], _∷_}
 use mathlib.Core.Logic.{_↔_}
 use native.Mathlib.Omega.{arith}
-use Rattle.trees.specs.Tree.{Tree, done, ask, run, after, questions, AtMost, ended, asking, AllNo}
+use Rattle.trees.specs.Tree.{Tree, done, run, after, questions, AtMost, ended, asking, AllNo, StopsAtYes}
 use Rattle.trees.proofs.TreeLaws.{run-after}
-use Rattle.trees.specs.InTurn.{answered, inTurn, Bounded, none, one}
+use Rattle.trees.specs.InTurn.{answered, inTurn, upTo, Bounded, none, one}
 
 module _ {Q S : Type 0} (answer : Q → Bool) (add : S → Q → S) where
   -- the end of the questions in turn, from the state s
@@ -60,7 +60,8 @@ module _ {Q S : Type 0} (answer : Q → Bool) (add : S → Q → S) where
 
   -- P holds of no state to which a yes has added
   module _ (P : S → Type 0) (never : (s : S) (q : Q) → P (add s q) → ⊥) where
-    answered-ends : (stop yes : Bool) (s : S) (q : Q) (rest : S → Tree Q Bool S) → ((s′ : S) → P (run answer (rest s′)) ↔ (P s′ × AllNo answer (rest s′))) → P (run answer (answered add stop yes s q rest)) ↔ (P s × (yes ≡ false) × AllNo answer (answered add stop yes s q rest))
+    answered-ends : (stop yes : Bool) (s : S) (q : Q) (rest : S → Tree Q Bool S) → ((s′ : S) → P (run answer (rest s′)) ↔ (P s′ × AllNo answer (rest s′)))
+        → P (run answer (answered add stop yes s q rest)) ↔ (P s × (yes ≡ false) × AllNo answer (answered add stop yes s q rest))
     unfolding answered run
     answered-ends stop false s q rest h = (λ p. (h s .0 p .0, refl, h s .0 p .1), λ z. h s .1 (z .0, z .2))
     answered-ends false true s q rest h = (λ p. absurd (never s q (h (add s q) .0 p .0)), λ z. absurd (true≢false (z .1)))
@@ -100,7 +101,23 @@ module _ {Q S : Type 0} (add : S → Q → S) where
   in-turn-at-most stop s none = ended
   in-turn-at-most stop s (one {q} {qs} g gs) = asking (λ yes. answered-at-most stop yes s q _ (λ s′. in-turn-at-most stop s′ gs))
 
-  -- where every answer is no, all of them are asked, in their order, and the state stays
+  -- ---- which are asked
+  module _ (answer : Q → Bool) where
+    asks-after : (stop yes : Bool) (s : S) (q : Q) (rest : S → Tree Q Bool S) {qs : List Q} → ((s′ : S) → questions answer (rest s′) ≡ qs)
+        → questions answer (answered add stop yes s q rest) ≡ cond (stop && yes) [] qs
+    unfolding answered questions
+    asks-after false false s q rest h = h s
+    asks-after false true s q rest h = h (add s q)
+    asks-after true false s q rest h = h s
+    asks-after true true s q rest h = refl
+
+    -- in their order, with `stop` up to the first yes
+    pub asks-up-to : (stop : Bool) (s : S) (qs : List Q) → questions answer (inTurn add stop s qs) ≡ upTo stop answer qs
+    unfolding questions inTurn upTo
+    asks-up-to stop s [] = refl
+    asks-up-to stop s (q ∷ qs) = ap (λ (rest : List Q). q ∷ rest) (asks-after stop (answer q) s q _ (λ s′. asks-up-to stop s′ qs))
+
+  -- where every answer is no, all of them are asked, and the state stays
   pub asks-each : (stop : Bool) (s : S) (qs : List Q) → questions (λ (q : Q). false) (inTurn add stop s qs) ≡ qs
   unfolding questions inTurn answered
   asks-each stop s [] = refl
@@ -110,6 +127,18 @@ module _ {Q S : Type 0} (add : S → Q → S) where
   unfolding run inTurn answered
   stays stop s [] = refl
   stays stop s (q ∷ qs) = stays stop s qs
+
+  -- nothing is asked after the first yes, and what is added to holds P
+  pub in-turn-stops : (P : S → Type 0) → ((s : S) (q : Q) → P (add s q)) → (s : S) (qs : List Q) → StopsAtYes P (inTurn add true s qs)
+  unfolding inTurn answered
+  in-turn-stops P h s [] = tt
+  in-turn-stops P h s (q ∷ qs) = (h s q, in-turn-stops P h s qs)
+
+-- without `stop` all are asked
+pub up-to-end : {Q : Type 0} (answer : Q → Bool) (qs : List Q) → upTo false answer qs ≡ qs
+unfolding upTo
+up-to-end answer [] = refl
+up-to-end answer (q ∷ qs) = ap (λ (rest : List _). q ∷ rest) (up-to-end answer qs)
 
 -- a bound may be larger
 pub bounded-more : {Q : Type 0} {G : Q → Type 0} {n : ℕ} {qs : List Q} → Bounded G n qs → Bounded G (suc n) qs

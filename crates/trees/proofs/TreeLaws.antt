@@ -5,7 +5,8 @@ use mathlib.Core.Bool.{Bool, true, false, cond}
 use mathlib.Core.List.{List, _∷_, _++_}
 use mathlib.Core.Logic.{_↔_}
 use native.Mathlib.Nat.{sub-zero, zero-sub, suc-sub-suc, add-comm, suc-add, zero-add}
-use Rattle.trees.specs.Tree.{Tree, done, ask, run, bind, after, questions, asked, AtMost, ended, asking, AllNo}
+use lib.ListN.{length}
+use Rattle.trees.specs.Tree.{Tree, done, ask, run, bind, after, questions, asked, AtMost, ended, asking, AllNo, Over, StopsAtYes}
 use Rattle.trees.specs.InTurn.{EachNo}
 
 module _ {Q R A : Type 0} (answer : Q → R) where
@@ -20,6 +21,11 @@ module _ {Q R A : Type 0} (answer : Q → R) where
   unfolding run bind questions
   questions-bind (done a) f = refl
   questions-bind (ask q next) f = ap (λ (qs : List Q). q ∷ qs) (questions-bind (next (answer q)) f)
+
+  pub asked-are : (t : Tree Q R A) → asked answer t ≡ length (questions answer t)
+  unfolding asked questions
+  asked-are (done a) = refl
+  asked-are (ask q next) = ap suc (asked-are (next (answer q)))
 
   -- however many answers were given, the end is the same
   pub run-after : (n : ℕ) (t : Tree Q R A) → run answer (after answer n t) ≡ run answer t
@@ -93,3 +99,15 @@ module _ {Q A : Type 0} (answer : Q → Bool) where
   all-no-questions (ask q next) =
       let e = all-no-questions (next false) in
       (λ h. (h .0, e .0 (subst (λ (r : Bool). AllNo answer (next r)) (h .0) (h .1))), λ h. (h .0, subst (λ (r : Bool). AllNo answer (next r)) (sym (h .0)) (e .1 (h .1))))
+
+-- t stops at its first yes, and where it did f asks nothing more
+module _ {Q A B : Type 0} (P : A → Type 0) (R : B → Type 0) (f : A → Tree Q Bool B) (after-yes : (a : A) → P a → Over R (f a)) where
+  over-bind : (t : Tree Q Bool A) → Over P t → Over R (bind t f)
+  unfolding bind
+  over-bind (done a) p = after-yes a p
+  over-bind (ask q next) p = absurd p
+
+  pub stops-bind : ((a : A) → StopsAtYes R (f a)) → (t : Tree Q Bool A) → StopsAtYes P t → StopsAtYes R (bind t f)
+  unfolding bind
+  stops-bind h (done a) s = h a
+  stops-bind h (ask q next) s = (over-bind (next true) (s .0), stops-bind h (next false) (s .1))

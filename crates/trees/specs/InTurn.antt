@@ -1,7 +1,7 @@
 -- Questions asked in turn, each answered yes or no. A yes changes the state. Definitions only.
 use Prim.Native.Nat.{ℕ, suc}
 use mathlib.Core.Path.{_≡_}
-use mathlib.Core.Bool.{Bool, true, false}
+use mathlib.Core.Bool.{Bool, true, false, cond, _&&_}
 use mathlib.Core.List.{List, [], _∷_}
 use Rattle.trees.specs.Tree.{Tree, done, ask}
 
@@ -16,6 +16,11 @@ answered add true true s q rest = done (add s q)
 unfoldable pub inTurn : {Q S : Type 0} → (S → Q → S) → (stop : Bool) → S → List Q → Tree Q Bool S
 inTurn add stop s [] = done s
 inTurn add stop s (q ∷ qs) = ask q (λ yes. answered add stop yes s q (λ s′. inTurn add stop s′ qs))
+
+-- those that are asked: all, or with `stop` those up to the first yes
+unfoldable pub upTo : {Q : Type 0} → (stop : Bool) → (Q → Bool) → List Q → List Q
+upTo stop answer [] = []
+upTo stop answer (q ∷ qs) = q ∷ cond (stop && answer q) [] (upTo stop answer qs)
 
 -- at most n questions, and G holds of each
 pub data Bounded {Q : Type 0} (G : Q → Type 0) : ℕ → List Q → Type 0 where

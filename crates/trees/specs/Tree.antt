@@ -2,7 +2,7 @@
 -- A planner's questions are its checks. Written so, its result, its state after n checks and a bound on their number are read off one definition.
 use Prim.Native.Nat.{ℕ, zero, suc}
 use mathlib.Core.Path.{_≡_}
-use mathlib.Core.Bool.{Bool, false}
+use mathlib.Core.Bool.{Bool, true, false}
 use mathlib.Core.List.{List, [], _∷_}
 
 pub data Tree (Q R A : Type 0) : Type 0 where
@@ -44,3 +44,13 @@ pub data AtMost {Q R A : Type 0} : ℕ → Tree Q R A → Type 0 where
 abbrev pub AllNo : {Q A : Type 0} → (Q → Bool) → Tree Q Bool A → Type 0
 AllNo answer (done a) = Unit {0}
 AllNo answer (ask q next) = (answer q ≡ false) × AllNo answer (next (answer q))
+
+-- nothing is left to ask, and P holds of the end
+abbrev pub Over : {Q R A : Type 0} → (A → Type 0) → Tree Q R A → Type 0
+Over P (done a) = P a
+Over P (ask q next) = ⊥
+
+-- nothing more is asked after the first yes, and P holds of the end then
+abbrev pub StopsAtYes : {Q A : Type 0} → (A → Type 0) → Tree Q Bool A → Type 0
+StopsAtYes P (done a) = Unit {0}
+StopsAtYes P (ask q next) = Over P (next true) × StopsAtYes P (next false)
