@@ -3,8 +3,9 @@ use mathlib.Core.Path.{_≡_, refl, ap, _∙_}
 use mathlib.Core.Bool.{Bool, true, false, cond, not}
 use mathlib.Core.List.{List, [], _∷_, _++_, map, append-nil}
 use lib.Ieee.{Float}
-use lib.ListN.{drop}
+use lib.ListN.{take, drop}
 use Rattle.doubles.specs.Operators.{_+ᶠ_, _-ᶠ_, _/ᶠ_, -ᶠ_, at}
+use Rattle.doubles.specs.Constants.{0ᶠ}
 use Rattle.elementary.specs.Functions.{sqrtOf}
 use Rattle.profile.specs.declared.Start.{Start}
 use Rattle.profile.specs.declared.Target.{Target}
@@ -60,6 +61,11 @@ module _ (start : Start) (target : Target) (k : Constants) (m : Limits) where
       ((refl, (refl, (refl, (refl, (refl, tt))))), ((refl, (refl, (refl, (refl, tt)))), tt)),
     ),
   )
+
+  -- of the two with one shape it is the earlier that goes to a_max first
+  pub acc0-two-step-second : map (λ (x : Try). at (x .t) 0) (take 2 (acc0TwoStepTries start target k m)) ≡ 0ᶠ ∷ ((-ᶠ (start .a0) +ᶠ m .«a_max») /ᶠ m .«j_max») ∷ []
+  unfolding acc0TwoStepTries timesAcc0TwoStep timesAcc0RemovedPf
+  acc0-two-step-second = refl
 
   -- phase 0 takes the acceleration to 0; phase 2 does
   pub vel-two-step-order : Shaped ((Vel, 1 ∷ 2 ∷ 5 ∷ []) ∷ (Vel, 0 ∷ 1 ∷ 5 ∷ []) ∷ []) (velTwoStepTries start target k m)
