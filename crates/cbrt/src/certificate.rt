@@ -7,6 +7,7 @@ ghost use Rattle.elementary.specs.Functions.{cbrtOf};
 
 // Whether c is the pattern of the double nearest to the cube root of the normal double whose pattern is b: with
 // the exponent of the root, its significand n is certain where (2n - 1)³ and (2n + 1)³ enclose 8 times its cube.
+// A no claims nothing and costs only time: the caller then finds the digits one by one.
 pub fn is_root(b: u64, c: u64) -> bool
     requires { ⌜ (2 ^ 52 ≤ b) × (b < 0x7ff0_0000_0000_0000) ⌝ }
     ensures { λ r. ⌜ (r ≡ true → ofBits binary64 c ≡ cbrtOf (ofBits binary64 b)) ⌝ }

@@ -41,7 +41,8 @@ fn target(sign: u64, m: u64) -> Wide
 
 // Whether c is the pattern of the double nearest to the cosine for the t with this sign bit and this pattern of its
 // magnitude. With 1/2 + h for the cosine the equation is h²(6 + 4h) = 1 + t: the candidate 1/2 + h * 2^-53 is certain
-// where (1 + t) * 2^160 lies between the values of j²(3 * 2^53 + j) at 2h - 1 and 2h + 1.
+// where (1 + t) * 2^160 lies between the values of j²(3 * 2^53 + j) at 2h - 1 and 2h + 1. A no claims nothing and costs only
+// time: the caller then finds the digits one by one.
 pub fn is_cosine(sign: u64, m: u64, c: u64) -> bool
     requires { ⌜ (sign < 2) × (0x3c80_0000_0000_0000 ≤ m) × (m < 0x3ff0_0000_0000_0000) ⌝ }
     ensures { λ r. ⌜ (r ≡ true → ofBits binary64 c ≡ cosineOf (ofBits binary64 (sign * 2 ^ 63 + m))) ⌝ }

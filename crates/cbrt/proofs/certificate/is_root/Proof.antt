@@ -85,7 +85,7 @@ returns-4 c =
     λ e.
     settled (c .before .before .before .before .args .b) (c .before .before .before .before .pre .0) (c .before .before .before .before .pre .1) (c .before .before .before .before .args .c) _ _ (start (c .before .before .before .before .args .b) (c .before .before .before .before .pre .0) (c .before .before .before .before .pre .1)) (c .before .before .before .if1 .left) (c .before .before .if2 .left) (c .before .if3 .left)
     (limbs (c .before .before .before .before .args .b % 2 ^ 52 + 2 ^ 52) ((c .before .before .before .before .args .b / 2 ^ 52 + 2043) % 3) (omega arith) (omega arith) .value)
-    (rw (and-mask (c .before .before .before .before .args .b) 52) at (c .between .ensures e))
+    (rw (and-mask (c .before .before .before .before .args .b) 52) at (c .between .ensures .yes e))
 
 pub is-root-spec : {M : Type 1} → statement M
 is-root-spec = tie.close (tie.spec (λ c. search needs) returns returns-2 returns-3 add-m (λ c. search needs) mul-between between-requires returns-4)

@@ -26,7 +26,7 @@ returns-4 c =
     λ e.
     ap (ofBits binary64) (let z : c .before .before .before .before .before .args .c ≡ 0x3fd0_0000_0000_0000 + (2 ^ 52 + (c .before .before .before .before .before .args .c - 0x3fe0_0000_0000_0000)) = omega arith in z)
     ∙ rounded-pattern (c .before .before .before .before .before .args .sign) (c .before .before .before .before .before .args .m) (c .before .before .before .before .before .pre .0) (c .before .before .before .before .before .pre .2) (c .before .before .before .before .before .pre .1) (2 ^ 52 + (c .before .before .before .before .before .args .c - 0x3fe0_0000_0000_0000))
-    (certified (c .before .before .before .before .before .args .sign) (c .before .before .before .before .before .args .m) (c .before .before .before .before .before .pre .0) (c .before .before .before .before .before .pre .2) _ (c .before .before .before .before .before .args .c - 0x3fe0_0000_0000_0000) (c .before .before .before .before .if1 .left) (omega arith) (omega arith) (c .before .target .ensures .value) (c .between .ensures e))
+    (certified (c .before .before .before .before .before .args .sign) (c .before .before .before .before .before .args .m) (c .before .before .before .before .before .pre .0) (c .before .before .before .before .before .pre .2) _ (c .before .before .before .before .before .args .c - 0x3fe0_0000_0000_0000) (c .before .before .before .before .if1 .left) (omega arith) (omega arith) (c .before .target .ensures .value) (c .between .ensures .yes e))
 
 pub is-cosine-spec : {M : Type 1} → statement M
 is-cosine-spec = tie.close (tie.spec returns returns-2 returns-3 (λ c κs. search needs) (λ c. search needs) (λ c. search needs) between-requires returns-4)

@@ -6,7 +6,7 @@ use Rattle.phase_times_two_step.proofs.scaled_root.scaled_root.Tie as t
 
 returns : tie.Need-returns
 unfolding scaledRoot
-returns c = cc
+returns c = rw (← c .before .abs .ensures)
 
 pub scaled-root-spec : {M : Type 1} → statement M
 scaled-root-spec = tie.close (tie.spec (λ c κs. search needs) returns)
