@@ -1,10 +1,7 @@
 // Whether a double is the nearest one to the cosine of a third of an angle, by exact comparison of whole numbers.
-ghost use mathlib.Core.Path.{_≡_};
-ghost use mathlib.Core.Bool.{true};
-ghost use Prim.Native.Nat.{_+_, _*_, _^_, _<_, _≤_};
-ghost use lib.Ieee.{binary64, ofBits};
-ghost use Rattle.elementary.specs.Functions.{cosineOf};
+ghost use Prim.Native.Nat.{_^_, _<_, _≤_};
 ghost use Rattle.cosine.specs.Scaled.{Shifted, Target};
+ghost use Rattle.cosine.specs.Certificate.{CosineBy};
 use words::wide::Wide;
 
 // significand * 2^shift.
@@ -41,11 +38,11 @@ fn target(sign: u64, m: u64) -> Wide
 
 // Whether c is the pattern of the double nearest to the cosine for the t with this sign bit and this pattern of its
 // magnitude. With 1/2 + h for the cosine the equation is h²(6 + 4h) = 1 + t: the candidate 1/2 + h * 2^-53 is certain
-// where (1 + t) * 2^160 lies between the values of j²(3 * 2^53 + j) at 2h - 1 and 2h + 1. A no claims nothing and costs only
-// time: the caller then finds the digits one by one.
+// where (1 + t) * 2^160 lies between the values of j²(3 * 2^53 + j) at 2h - 1 and 2h + 1. A no says that c or t
+// is out of this range or (1 + t) * 2^160 not well inside, and costs only time: the caller then finds the digits one by one.
 pub fn is_cosine(sign: u64, m: u64, c: u64) -> bool
     requires { ⌜ (sign < 2) × (0x3c80_0000_0000_0000 ≤ m) × (m < 0x3ff0_0000_0000_0000) ⌝ }
-    ensures { λ r. ⌜ (r ≡ true → ofBits binary64 c ≡ cosineOf (ofBits binary64 (sign * 2 ^ 63 + m))) ⌝ }
+    ensures { λ r. ⌜ CosineBy sign m c r ⌝ }
 {
     if m < 0x3c90_0000_0000_0000 {
         return false;

@@ -30,6 +30,14 @@ nan-test nan = refl
 nan-test (inf s) = ap not (same-sign s)
 nan-test (fin s m e) = rw (is-true (eqb (m * up e * down e) (m * up e * down e)) (eqb-refl (m * up e * down e)), same-sign s)
 
+-- of a number and another, `min` and `max` give the other where their test b says so
+module _ (x y : Float) (b : Bool) (number : (x !=ᶠ x) ≡ false) where
+  pub the-other : b ≡ true → y ≡ cond (isNan x) y (cond b y x)
+  the-other e = rw (← nan-test, number, e)
+
+  pub the-number : b ≡ false → x ≡ cond (isNan x) y (cond b y x)
+  the-number e = rw (← nan-test, number, e)
+
 -- ---- the absolute value
 zero-is : 0ᶠ ≡ fin false 0 (pos 0)
 unfolding ofBits

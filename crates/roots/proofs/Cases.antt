@@ -10,10 +10,3 @@ by-test false f g = g refl
 pub either : {A : Type 0} (P : A → Type 0) (b : Bool) {x y : A} → P x → P y → P (cond b x y)
 either P true p q = p
 either P false p q = q
-
--- what a test that is known picks
-pub picks-first : {A : Type 0} (b : Bool) (x y : A) → b ≡ true → cond b x y ≡ x
-picks-first b x y e = rw e
-
-pub picks-second : {A : Type 0} (b : Bool) (x y : A) → b ≡ false → cond b x y ≡ y
-picks-second b x y e = rw e

@@ -3,7 +3,7 @@ use mathlib.Core.Path.{_≡_, refl, sym, ap, _∙_}
 use Prim.Native.Nat.{ℕ, zero, suc, _≤_, _<_}
 use native.Mathlib.Numerals.{add-one}
 use native.Mathlib.Omega.{arith}
-use mathlib.Core.Bool.{cond}
+use mathlib.Core.Bool.{true, false, cond}
 use mathlib.Core.List.{List, [], _∷_, _++_}
 use lib.Ieee.{Float, nan}
 use lib.ListN.{length, take, drop, drop-of-length-le}
@@ -44,11 +44,25 @@ third-placed =
     by-values (λ v. placedAt 2 v ≡ withThird v)
     (λ a b c d. by-test (c <ᶠ a) (λ i. rw i) (λ i. by-test (c <ᶠ b) (λ j. rw (i, j)) (λ j. rw (i, j))))
 
-pub fourth-placed : (v : List Float) → length v ≡ 4 → placedAt 3 v ≡ withFourth v
+fourth-placed : (v : List Float) → length v ≡ 4 → placedAt 3 v ≡ withFourth v
 unfolding placedAt placed
 fourth-placed =
     by-values (λ v. placedAt 3 v ≡ withFourth v)
     (λ a b c d. by-test (d <ᶠ a) (λ i. rw i) (λ i. by-test (d <ᶠ b) (λ j. rw (i, j)) (λ j. by-test (d <ᶠ c) (λ k. rw (i, j, k)) (λ k. rw (i, j, k)))))
+
+-- the fourth value before the first, the second or the third, or where it is
+module _ (v : List Float) (four : length v ≡ 4) where
+  pub fourth-first : (at v 3 <ᶠ at v 0) ≡ true → at v 3 ∷ at v 0 ∷ at v 1 ∷ at v 2 ∷ [] ≡ placedAt 3 v
+  fourth-first i = rw (fourth-placed v four, i)
+
+  pub fourth-second : (at v 3 <ᶠ at v 0) ≡ false → (at v 3 <ᶠ at v 1) ≡ true → at v 0 ∷ at v 3 ∷ at v 1 ∷ at v 2 ∷ [] ≡ placedAt 3 v
+  fourth-second i j = rw (fourth-placed v four, i, j)
+
+  pub fourth-third : (at v 3 <ᶠ at v 0) ≡ false → (at v 3 <ᶠ at v 1) ≡ false → (at v 3 <ᶠ at v 2) ≡ true → at v 0 ∷ at v 1 ∷ at v 3 ∷ at v 2 ∷ [] ≡ placedAt 3 v
+  fourth-third i j k = rw (fourth-placed v four, i, j, k)
+
+  pub fourth-last : (at v 3 <ᶠ at v 0) ≡ false → (at v 3 <ᶠ at v 1) ≡ false → (at v 3 <ᶠ at v 2) ≡ false → v ≡ placedAt 3 v
+  fourth-last i j k = rw (fourth-placed v four, i, j, k)
 
 -- ---- the reading order, one root after the other
 

@@ -60,7 +60,7 @@ fn radicand(digits: u64) -> u64
 }
 
 // The verdict on c as the pattern of the root of the normal double with the pattern b. The root has half the exponent of b, so
-// r is what is left of c without it. Unknown claims nothing and costs only time: the caller then finds the digits one by one.
+// r is what is left of c without it. Unknown costs only time: the caller then finds the digits one by one.
 pub fn root_judged(b: u64, c: u64) -> Verdict
     requires { ⌜ (2 ^ 52 ≤ b) × (b < 0x7ff0_0000_0000_0000) ⌝ }
     ensures { λ v. ⌜ Certified b c v ⌝ }

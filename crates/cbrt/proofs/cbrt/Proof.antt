@@ -56,10 +56,10 @@ is-root-requires : tie.Need-is-root-requires
 is-root-requires c κs = normal (bitAnd (toBits binary64 (c .before .before .before .before .args .x)) 0x7fff_ffff_ffff_ffff) (c .before .before .if2 .taken)
 
 returns-2 : tie.Need-returns-2
-returns-2 c = root-positive (c .before .before .before .before .before .before .before .args .x) (held (c .before .before .before .before .before .before .before)) _ (magnitude (toBits binary64 (c .before .before .before .before .before .before .before .args .x)) _ (own-pattern (c .before .before .before .before .candidate .result) _ _ (c .before .before .before .before .candidate .ensures) ∙ c .before .before .is-root .ensures (c .before .if4 .taken))) (rw (and-mask (toBits binary64 (c .before .before .before .before .before .before .before .args .x)) 63) at (c .if5 .taken))
+returns-2 c = root-positive (c .before .before .before .before .before .before .before .args .x) (held (c .before .before .before .before .before .before .before)) _ (magnitude (toBits binary64 (c .before .before .before .before .before .before .before .args .x)) _ (own-pattern (c .before .before .before .before .candidate .result) _ _ (c .before .before .before .before .candidate .ensures) ∙ c .before .before .is-root .ensures .yes (c .before .if4 .taken))) (rw (and-mask (toBits binary64 (c .before .before .before .before .before .before .before .args .x)) 63) at (c .if5 .taken))
 
 returns-3 : tie.Need-returns-3
-returns-3 c = root-negative (c .before .before .before .before .before .before .before .args .x) (held (c .before .before .before .before .before .before .before)) _ (magnitude (toBits binary64 (c .before .before .before .before .before .before .before .args .x)) _ (own-pattern (c .before .before .before .before .candidate .result) _ _ (c .before .before .before .before .candidate .ensures) ∙ c .before .before .is-root .ensures (c .before .if4 .taken))) (rw (and-mask (toBits binary64 (c .before .before .before .before .before .before .before .args .x)) 63) at (c .if5 .left))
+returns-3 c = root-negative (c .before .before .before .before .before .before .before .args .x) (held (c .before .before .before .before .before .before .before)) _ (magnitude (toBits binary64 (c .before .before .before .before .before .before .before .args .x)) _ (own-pattern (c .before .before .before .before .candidate .result) _ _ (c .before .before .before .before .candidate .ensures) ∙ c .before .before .is-root .ensures .yes (c .before .if4 .taken))) (rw (and-mask (toBits binary64 (c .before .before .before .before .before .before .before .args .x)) 63) at (c .if5 .left))
 
 pub cbrt-spec : {M : Type 1} → statement M
 cbrt-spec = tie.close (tie.spec returns float-to-bits-b float-from-bits-candidate candidate-requires float-to-bits-is-root is-root-requires returns-2 returns-3 (λ c κs. search needs) (λ c. search needs))

@@ -16,7 +16,7 @@ float-to-bits-is-cosine : tie.Need-float-to-bits-is-cosine
 float-to-bits-is-cosine c = not-nan-by-eq (c .before .args .candidate) (c .if1 .taken)
 
 returns : tie.Need-returns
-returns c = sym (ofBits-toBits binary64 (c .before .before .before .args .candidate) (held (c .before .before .before))) ∙ c .before .is-cosine .ensures (c .if2 .taken)
+returns c = sym (ofBits-toBits binary64 (c .before .before .before .args .candidate) (held (c .before .before .before))) ∙ c .before .is-cosine .ensures .yes (c .if2 .taken)
 
 float-from-bits-result : tie.Need-float-from-bits-result
 float-from-bits-result c = not-nan-bits _ (omega (arith, c .cosine-pattern .ensures .0))

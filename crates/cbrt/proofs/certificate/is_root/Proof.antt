@@ -8,7 +8,7 @@ use lib.Bits.{bitAnd, and-mask}
 use lib.Pow.{pow-add}
 use lib.Ieee.{binary64, ofBits}
 use Rattle.bits.proofs.Normalize.{normal}
-use Rattle.midpoints.specs.Cubic.{Between}
+use Rattle.midpoints.specs.Cubic.{Between, WellBetween}
 use Rattle.elementary.specs.Functions.{cbrtOf}
 use Rattle.elementary.specs.Binade.{RoundsTo}
 use Rattle.cbrt.proofs.Roots.{rootOf, certified, root-pattern}
@@ -63,13 +63,22 @@ module _ (b : ℕ) (least : 2 ^ 52 ≤ b) (finite : b < 0x7ff0_0000_0000_0000) w
       (certified (b % 2 ^ 52 + 2 ^ 52) ((b / 2 ^ 52 + 2043) % 3) (omega arith) (omega arith) (omega arith) (c - s) e above below (target (b % 2 ^ 52 + 2 ^ 52) ((b / 2 ^ 52 + 2043) % 3) e v) h)
 
 returns : tie.Need-returns
-returns c = λ e. absurd (subst T (sym e) tt)
+returns c = record {
+  yes = λ e. absurd (subst T (sym e) tt);
+  sure = λ p q w. absurd (let z : ⊥ = omega (arith, start (c .before .args .b) (c .before .pre .0) (c .before .pre .1)) in z);
+}
 
 returns-2 : tie.Need-returns-2
-returns-2 c = λ e. absurd (subst T (sym e) tt)
+returns-2 c = record {
+  yes = λ e. absurd (subst T (sym e) tt);
+  sure = λ p q w. absurd (let z : ⊥ = omega (arith, start (c .before .before .args .b) (c .before .before .pre .0) (c .before .before .pre .1)) in z);
+}
 
 returns-3 : tie.Need-returns-3
-returns-3 c = λ e. absurd (subst T (sym e) tt)
+returns-3 c = record {
+  yes = λ e. absurd (subst T (sym e) tt);
+  sure = λ p q w. absurd (let z : ⊥ = omega (arith, start (c .before .before .before .args .b) (c .before .before .before .pre .0) (c .before .before .before .pre .1)) in z);
+}
 
 add-m : tie.Need-add-m
 add-m c = omega (arith, and-mask (c .before .before .before .args .b) 52)
@@ -82,10 +91,20 @@ between-requires c κs = rw (and-mask (c .before .before .before .args .b) 52) (
 
 returns-4 : tie.Need-returns-4
 returns-4 c =
-    λ e.
-    settled (c .before .before .before .before .args .b) (c .before .before .before .before .pre .0) (c .before .before .before .before .pre .1) (c .before .before .before .before .args .c) _ _ (start (c .before .before .before .before .args .b) (c .before .before .before .before .pre .0) (c .before .before .before .before .pre .1)) (c .before .before .before .if1 .left) (c .before .before .if2 .left) (c .before .if3 .left)
-    (limbs (c .before .before .before .before .args .b % 2 ^ 52 + 2 ^ 52) ((c .before .before .before .before .args .b / 2 ^ 52 + 2043) % 3) (omega arith) (omega arith) .value)
-    (rw (and-mask (c .before .before .before .before .args .b) 52) at (c .between .ensures .yes e))
+    let s = c .before .before .before .before in
+    let b = s .args .b in
+    let starts = start b (s .pre .0) (s .pre .1) in
+    let parts = limbs (b % 2 ^ 52 + 2 ^ 52) ((b / 2 ^ 52 + 2043) % 3) (omega arith) (omega arith) in
+    record {
+      yes =
+          λ e.
+          settled b (s .pre .0) (s .pre .1) (s .args .c) _ _ starts (c .before .before .before .if1 .left) (c .before .before .if2 .left) (c .before .if3 .left) (parts .value)
+          (rw (and-mask b 52) at (c .between .ensures .yes e));
+      sure =
+          λ p q w.
+          (rw (and-mask b 52) at (c .between .ensures .sure))
+          (subst (λ (e : ℕ). WellBetween 0 (2 * (s .args .c - (b / 2 ^ 52 + 2043) / 3 * 2 ^ 52 % 2 ^ 64)) e) (sym (parts .value)) (subst (λ (x : ℕ). WellBetween 0 (2 * (s .args .c - x)) ((b % 2 ^ 52 + 2 ^ 52) * 2 ^ ((b / 2 ^ 52 + 2043) % 3) * 2 ^ 53)) (sym starts) w));
+    }
 
 pub is-root-spec : {M : Type 1} → statement M
 is-root-spec = tie.close (tie.spec (λ c. search needs) returns returns-2 returns-3 add-m (λ c. search needs) mul-between between-requires returns-4)

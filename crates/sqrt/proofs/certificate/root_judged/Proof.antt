@@ -8,7 +8,7 @@ use borrow.Author.Needs.{needs}
 use Rattle.bits.specs.Fields.{Normalized}
 use Rattle.bits.proofs.Normalize.{normal}
 use Rattle.sqrt.specs.Roots.{NearestRoot}
-use Rattle.sqrt.specs.Verdicts.{IsRoot, Certified}
+use Rattle.sqrt.specs.Verdicts.{IsRoot, IsPattern, radicandOf, verdictOf, Certified}
 use Rattle.sqrt.specs.declared.certificate.Verdict.{Verdict}
 use Rattle.sqrt.specs.declared.certificate.Verdict.the-variants.{Nearest, TooLow, TooHigh, Unknown}
 use Rattle.sqrt.proofs.RootPattern.{with-parity, root-most, root-is}
@@ -27,8 +27,12 @@ radicand-is : (b : ℕ) → ((b + 0x3ff0_0000_0000_0000) % 2 ^ 53 % 2 ^ 52 + 2 ^
 radicand-is b = ap₂ (λ (x y : ℕ). (x + 2 ^ 52) * 2 ^ y) (fraction-is b) (parity-is b)
 
 -- c is half the exponent and r
-pattern-is : (b c r : ℕ) → 2 ^ 52 ≤ b → b < 0x7ff0_0000_0000_0000 → r < 2 ^ 53 → (r + ((b + 0x3ff0_0000_0000_0000) / 2 ^ 53 - 1) * 2 ^ 52 % 2 ^ 64) % 2 ^ 64 ≡ c → (b / 2 ^ 52 + 1021) / 2 * 2 ^ 52 + r ≡ c
+pattern-is : (b c r : ℕ) → 2 ^ 52 ≤ b → b < 0x7ff0_0000_0000_0000 → r < 2 ^ 53 → (r + ((b + 0x3ff0_0000_0000_0000) / 2 ^ 53 - 1) * 2 ^ 52 % 2 ^ 64) % 2 ^ 64 ≡ c → IsPattern b r c
 pattern-is b c r h g l e = omega arith
+
+-- where r is out of range, no other is in range
+no-pattern : (b c r s : ℕ) → 2 ^ 52 ≤ b → b < 0x7ff0_0000_0000_0000 → 2 ^ 53 ≤ r → r < 2 ^ 64 → (r + ((b + 0x3ff0_0000_0000_0000) / 2 ^ 53 - 1) * 2 ^ 52 % 2 ^ 64) % 2 ^ 64 ≡ c → s < 2 ^ 53 → IsPattern b s c → ⊥
+no-pattern b c r s h g l f e k q = omega arith
 
 add-biased : tie.Need-add-biased
 add-biased c = search needs
@@ -40,7 +44,7 @@ wrapping-sub-u64-requires : tie.Need-wrapping-sub-u64-requires
 wrapping-sub-u64-requires c κs = search needs
 
 returns : tie.Need-returns
-returns c = search needs
+returns c = λ s l q. absurd (no-pattern (c .before .before .args .b) (c .before .before .args .c) (c .before .wrapping-sub-u64 .result) s (c .before .before .pre .0) (c .before .before .pre .1) (c .if1 .taken) (omega arith) (c .before .wrapping-sub-u64 .ensures) l q)
 
 radicand-requires : tie.Need-radicand-requires
 radicand-requires c κs = omega (arith, and-mask (c .before .before .args .b + 0x3ff0_0000_0000_0000) 53)
@@ -59,24 +63,24 @@ judged-requires c κs = (
 )
 
 -- what the verdict says of whole numbers, said of the patterns
-certified : (b c r : ℕ) → 2 ^ 52 ≤ b → b < 0x7ff0_0000_0000_0000 → (b / 2 ^ 52 + 1021) / 2 * 2 ^ 52 + r ≡ c → (v : Verdict) → Says ((b % 2 ^ 52 + 2 ^ 52) * 2 ^ ((b / 2 ^ 52 + 1021) % 2) * 2 ^ 52) r v → Certified b c v
-certified b c r h g e v s = go v s
+certified : (b c r : ℕ) → 2 ^ 52 ≤ b → b < 0x7ff0_0000_0000_0000 → IsPattern b r c → (v : Verdict) → v ≡ verdictOf (radicandOf b * 2 ^ 52) r → Certified b c v
+certified b c r h g e v i = go v (subst (Says (radicandOf b * 2 ^ 52) r) (sym i) (verdict-says (radicandOf b * 2 ^ 52) r)) i
   where
     parts : Normalized b (b % 2 ^ 52 + 2 ^ 52) (b / 2 ^ 52 + 1021)
     parts = normal b (b / 2 ^ 52 - 1) (let z : b / 2 ^ 52 ≡ suc (b / 2 ^ 52 - 1) = omega arith in z) g
 
-    at : (n p : ℕ) → (b / 2 ^ 52 + 1021) / 2 * 2 ^ 52 + n ≡ p → NearestRoot ((b % 2 ^ 52 + 2 ^ 52) * 2 ^ ((b / 2 ^ 52 + 1021) % 2) * 2 ^ 52) n → IsRoot b p
+    at : (n p : ℕ) → IsPattern b n p → NearestRoot (radicandOf b * 2 ^ 52) n → IsRoot b p
     at n p q k =
         let most : n ≤ 2 ^ 53 = root-most b (b % 2 ^ 52 + 2 ^ 52) (b / 2 ^ 52 + 1021) parts g n k in (
           (let z : p < 0x7ff0_0000_0000_0000 = omega arith in z),
           ap (ofBits binary64) (sym q) ∙ root-is b (b % 2 ^ 52 + 2 ^ 52) (b / 2 ^ 52 + 1021) parts g n k,
         )
 
-    go : (v : Verdict) → Says ((b % 2 ^ 52 + 2 ^ 52) * 2 ^ ((b / 2 ^ 52 + 1021) % 2) * 2 ^ 52) r v → Certified b c v
-    go Nearest k = at r c e k
-    go TooLow k = at (r + 1) (c + 1) (omega arith) k
-    go TooHigh k = let p = k .0 in (omega arith, at (r - 1) (c - 1) (omega arith) (k .1))
-    go Unknown k = tt
+    go : (v : Verdict) → Says (radicandOf b * 2 ^ 52) r v → v ≡ verdictOf (radicandOf b * 2 ^ 52) r → Certified b c v
+    go Nearest k i = at r c e k
+    go TooLow k i = at (r + 1) (c + 1) (omega arith) k
+    go TooHigh k i = let p = k .0 in (omega arith, at (r - 1) (c - 1) (omega arith) (k .1))
+    go Unknown k i = λ s l q. subst (λ (n : ℕ). verdictOf (radicandOf b * 2 ^ 52) n ≡ Unknown) (let z : r ≡ s = omega arith in z) (sym i)
 
 returns-2 : tie.Need-returns-2
 returns-2 c =
@@ -84,7 +88,7 @@ returns-2 c =
     certified (c .before .before .before .before .args .b) (c .before .before .before .before .args .c) r (c .before .before .before .before .pre .0) (c .before .before .before .before .pre .1)
     (pattern-is (c .before .before .before .before .args .b) (c .before .before .before .before .args .c) r (c .before .before .before .before .pre .0) (c .before .before .before .before .pre .1) (c .before .before .if1 .left) (c .before .before .before .wrapping-sub-u64 .ensures))
     (c .judged .result)
-    (subst (λ (x : ℕ). Says (x * 2 ^ 52) r (c .judged .result)) (radicand (c .before)) (subst (λ (v : Verdict). Says (c .before .radicand .result * 2 ^ 52) r v) (sym (c .judged .ensures)) (verdict-says (c .before .radicand .result * 2 ^ 52) r)))
+    (c .judged .ensures ∙ ap (λ (x : ℕ). verdictOf (x * 2 ^ 52) r) (radicand (c .before)))
 
 pub root-judged-spec : {M : Type 1} → statement M
 root-judged-spec = tie.close (tie.spec add-biased sub-wrapping-sub-u64 wrapping-sub-u64-requires returns radicand-requires judged-requires returns-2)
