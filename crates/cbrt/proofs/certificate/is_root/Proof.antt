@@ -10,6 +10,7 @@ use lib.Ieee.{binary64, ofBits}
 use Rattle.bits.proofs.Normalize.{normal}
 use Rattle.midpoints.specs.Cubic.{Between, WellBetween}
 use Rattle.elementary.specs.Functions.{cbrtOf}
+use Rattle.cbrt.specs.Certificate.{targetOf}
 use Rattle.elementary.specs.Binade.{RoundsTo}
 use Rattle.cbrt.proofs.Roots.{rootOf, certified, root-pattern}
 use borrow.Author.Needs.{needs}
@@ -103,7 +104,8 @@ returns-4 c =
       sure =
           λ p q w.
           (rw (and-mask b 52) at (c .between .ensures .sure))
-          (subst (λ (e : ℕ). WellBetween 0 (2 * (s .args .c - (b / 2 ^ 52 + 2043) / 3 * 2 ^ 52 % 2 ^ 64)) e) (sym (parts .value)) (subst (λ (x : ℕ). WellBetween 0 (2 * (s .args .c - x)) ((b % 2 ^ 52 + 2 ^ 52) * 2 ^ ((b / 2 ^ 52 + 2043) % 3) * 2 ^ 53)) (sym starts) w));
+          (subst (λ (e : ℕ). WellBetween 0 (2 * (s .args .c - (b / 2 ^ 52 + 2043) / 3 * 2 ^ 52 % 2 ^ 64)) e) (sym (parts .value))
+          (subst (λ (x : ℕ). WellBetween 0 (2 * (s .args .c - x)) (targetOf b)) (sym starts) w));
     }
 
 pub is-root-spec : {M : Type 1} → statement M

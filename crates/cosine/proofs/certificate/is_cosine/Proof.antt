@@ -46,7 +46,8 @@ returns-4 c =
           λ e.
           ap (ofBits binary64) (let z : s .args .c ≡ 0x3fd0_0000_0000_0000 + (2 ^ 52 + (s .args .c - 0x3fe0_0000_0000_0000)) = omega arith in z)
           ∙ rounded-pattern (s .args .sign) (s .args .m) (s .pre .0) (s .pre .2) (s .pre .1) (2 ^ 52 + h)
-          (certified (s .args .sign) (s .args .m) (s .pre .0) (s .pre .2) _ h (c .before .before .before .before .if1 .left) (omega arith) (omega arith) (c .before .target .ensures .value) (c .between .ensures .yes e));
+          (certified (s .args .sign) (s .args .m) (s .pre .0) (s .pre .2) _ h (c .before .before .before .before .if1 .left) (omega arith) (omega arith)
+          (c .before .target .ensures .value) (c .between .ensures .yes e));
       sure = λ t l g e o w. c .between .ensures .sure (subst (WellBetween 3 (2 * h)) (one-plus (s .args .sign) _ e _ o (c .before .target .ensures .value)) w);
     }
 

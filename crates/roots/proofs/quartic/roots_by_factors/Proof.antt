@@ -24,7 +24,8 @@ by-steps a b c d z y f none one both t ez ey ef en et e1 e2 = rw (e2, e1, et, en
 
 returns : tie.Need-returns
 returns c =
-    by-steps _ _ _ _ _ _ _ _ _ _ _ (c .before .before .before .before .before .solve-resolvent .ensures) (c .before .before .before .before .largest-zero .ensures) (c .before .before .before .factors-of .ensures)
+    by-steps _ _ _ _ _ _ _ _ _ _ _ (c .before .before .before .before .before .solve-resolvent .ensures)
+    (c .before .before .before .before .largest-zero .ensures) (c .before .before .before .factors-of .ensures)
     (c .before .before .new .ensures) (sym 16eps-value) (c .before .with-quadratic .ensures) (c .with-quadratic2 .ensures)
 
 pub roots-by-factors-spec : {M : Type 1} → statement M

@@ -31,7 +31,8 @@ pattern-is : (b c r : ℕ) → 2 ^ 52 ≤ b → b < 0x7ff0_0000_0000_0000 → r 
 pattern-is b c r h g l e = omega arith
 
 -- where r is out of range, no other is in range
-no-pattern : (b c r s : ℕ) → 2 ^ 52 ≤ b → b < 0x7ff0_0000_0000_0000 → 2 ^ 53 ≤ r → r < 2 ^ 64 → (r + ((b + 0x3ff0_0000_0000_0000) / 2 ^ 53 - 1) * 2 ^ 52 % 2 ^ 64) % 2 ^ 64 ≡ c → s < 2 ^ 53 → IsPattern b s c → ⊥
+no-pattern : (b c r s : ℕ) → 2 ^ 52 ≤ b → b < 0x7ff0_0000_0000_0000 → 2 ^ 53 ≤ r → r < 2 ^ 64
+    → (r + ((b + 0x3ff0_0000_0000_0000) / 2 ^ 53 - 1) * 2 ^ 52 % 2 ^ 64) % 2 ^ 64 ≡ c → s < 2 ^ 53 → IsPattern b s c → ⊥
 no-pattern b c r s h g l f e k q = omega arith
 
 add-biased : tie.Need-add-biased
@@ -44,7 +45,10 @@ wrapping-sub-u64-requires : tie.Need-wrapping-sub-u64-requires
 wrapping-sub-u64-requires c κs = search needs
 
 returns : tie.Need-returns
-returns c = λ s l q. absurd (no-pattern (c .before .before .args .b) (c .before .before .args .c) (c .before .wrapping-sub-u64 .result) s (c .before .before .pre .0) (c .before .before .pre .1) (c .if1 .taken) (omega arith) (c .before .wrapping-sub-u64 .ensures) l q)
+returns c =
+    let a = c .before .before in
+    let rest = c .before .wrapping-sub-u64 in
+    λ s l q. absurd (no-pattern (a .args .b) (a .args .c) (rest .result) s (a .pre .0) (a .pre .1) (c .if1 .taken) (omega arith) (rest .ensures) l q)
 
 radicand-requires : tie.Need-radicand-requires
 radicand-requires c κs = omega (arith, and-mask (c .before .before .args .b + 0x3ff0_0000_0000_0000) 53)
