@@ -10,7 +10,7 @@ use Rattle.midpoints.specs.Cubic.{WellBetween}
 abbrev pub significandOf : ℕ → ℕ → ℕ
 significandOf b c = c - (b / 2 ^ 52 + 2043) / 3 * 2 ^ 52
 
--- the cube of the root, in units of 2 ^ 54 where the significand's half unit is 1
+-- the cube of the root in half units of its last place, in units of 2 ^ 54
 abbrev pub targetOf : ℕ → ℕ
 targetOf b = (b % 2 ^ 52 + 2 ^ 52) * 2 ^ ((b / 2 ^ 52 + 2043) % 3) * 2 ^ 53
 

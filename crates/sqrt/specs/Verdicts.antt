@@ -16,10 +16,11 @@ verdictOf a r = cond (isNearestRoot a r) Nearest (cond (isNearestRoot a (r + 1))
 abbrev pub IsRoot : ℕ → ℕ → Type 0
 IsRoot b p = (p < 0x7ff0_0000_0000_0000) × (ofBits binary64 p ≡ sqrtOf (ofBits binary64 b))
 
--- c is half the exponent of the normal double with the pattern b, and r; the significand whose root r is to be
+-- c is half the exponent of the normal double with the pattern b, and r
 abbrev pub IsPattern : ℕ → ℕ → ℕ → Type 0
 IsPattern b r c = (b / 2 ^ 52 + 1021) / 2 * 2 ^ 52 + r ≡ c
 
+-- its significand, doubled for an odd exponent
 abbrev pub radicandOf : ℕ → ℕ
 radicandOf b = (b % 2 ^ 52 + 2 ^ 52) * 2 ^ ((b / 2 ^ 52 + 1021) % 2)
 
