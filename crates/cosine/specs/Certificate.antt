@@ -10,4 +10,5 @@ use Rattle.cosine.specs.Scaled.{sizeAt, IsOnePlus}
 
 pub record CosineBy (sign m c : ℕ) (r : Bool) : Type 0 where
   pub yes : r ≡ true → ofBits binary64 c ≡ cosineOf (ofBits binary64 (sign * 2 ^ 63 + m))
-  pub sure : 0x3c90_0000_0000_0000 ≤ m → 0x3fe0_0000_0000_0000 < c → c ≤ 0x3ff0_0000_0000_0000 → (e : ℕ) → IsOnePlus sign (sizeAt m) e → WellBetween 3 (2 * (c - 0x3fe0_0000_0000_0000)) e → r ≡ true
+  pub sure : 0x3c90_0000_0000_0000 ≤ m → 0x3fe0_0000_0000_0000 < c → c ≤ 0x3ff0_0000_0000_0000
+      → (e : ℕ) → IsOnePlus sign (sizeAt m) e → WellBetween 3 (2 * (c - 0x3fe0_0000_0000_0000)) e → r ≡ true
