@@ -8,4 +8,5 @@ pub mod MemberLaws
 pub mod StretchLaws
 pub mod LeastLaws
 pub mod RefusalLaws
-pub mod ShopChecks
+pub mod BlockingLaws
+pub mod Examples

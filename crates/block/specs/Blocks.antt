@@ -1,7 +1,10 @@
 -- A plan: the shortest profile and at most two blocked stretches of time. Which times are blocked. Definitions only.
 use Prim.Native.Nat.{ℕ}
+use mathlib.Core.Path.{_≡_}
 use mathlib.Core.Bool.{Bool, false, cond, _&&_, _||_}
-use lib.Ieee.{Float}
+use mathlib.Core.List.{List, [], _∷_}
+use mathlib.Core.Logic.{_↔_}
+use lib.Ieee.{Float, inf}
 use lib.Ieee.Scale.{finite}
 use Rattle.doubles.specs.Operators.{_+ᶠ_, _<ᶠ_, at}
 use Rattle.doubles.specs.Constants.{0ᶠ}
@@ -51,6 +54,41 @@ planned b = record { refusal = 0; block = b }
 unfoldable pub refused : ℕ → Answer
 refused n = record { refusal = n; block = emptyBlock }
 
+-- ---- document 01's values for each case of a stretch
+
+-- how many stretches it is
+abbrev pub countOf : Stretch → ℕ
+countOf Nothing = 0
+countOf (Between left right) = 1
+countOf (From left) = 1
+
+-- its ends: 0 for nothing; a stretch from a time on ends at infinity
+abbrev pub leftEnd : Stretch → Float
+leftEnd Nothing = 0ᶠ
+leftEnd (Between left right) = left
+leftEnd (From left) = left
+
+abbrev pub rightEnd : Stretch → Float
+rightEnd Nothing = 0ᶠ
+rightEnd (Between left right) = right
+rightEnd (From left) = inf false
+
+-- both, the left one first
+abbrev pub bothEnds : Stretch → List Float
+bothEnds s = leftEnd s ∷ rightEnd s ∷ []
+
+-- the same, and none of nothing
+abbrev pub endsOf : Stretch → List Float
+endsOf Nothing = []
+endsOf (Between left right) = bothEnds (Between left right)
+endsOf (From left) = bothEnds (From left)
+
+-- the number of its kind
+abbrev pub kindNumber : Stretch → ℕ
+kindNumber Nothing = 0
+kindNumber (Between left right) = 1
+kindNumber (From left) = 2
+
 -- ---- which times are blocked
 
 -- inside a stretch, its ends excluded; of a stretch from a time on every later time
@@ -67,8 +105,13 @@ isBlocked b t = (t <ᶠ b .«t_min») || inside (b .a .stretch) t || inside (b .
 unfoldable pub blockingOf : Block → Float → Blocking
 blockingOf b t = cond (finite t) (cond (isBlocked b t) Blocked Free) NotFinite
 
--- the number of its refusal, or 0
+-- the number of each answer: of no 0, of yes 1, and of neither document 01's 6
 abbrev pub blockingNumber : Blocking → ℕ
-blockingNumber Blocked = 0
 blockingNumber Free = 0
+blockingNumber Blocked = 1
 blockingNumber NotFinite = 6
+
+-- what `is_blocked` says of the time t: the definition's answer, whose number is 6 if and only if t isn't finite
+pub record Says (b : Block) (t : Float) (r : Blocking) : Type 0 where
+  pub answer : r ≡ blockingOf b t
+  pub six : (blockingNumber r ≡ 6) ↔ (finite t ≡ false)

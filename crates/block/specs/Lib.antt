@@ -1,5 +1,6 @@
--- The definitions of `block`: plans, selection, and what is said of them.
+-- The definitions of `block`: plans, selection, what is said of them, and a profile for examples.
 pub mod Blocks
 pub mod Selection
 pub mod Steps
 pub mod Plans
+pub mod Examples

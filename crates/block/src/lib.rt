@@ -1,7 +1,8 @@
 // Selection among the accepted profiles of a move: the shortest one, and the stretches of time that no profile has. What block.rs declares, by value.
 
 ghost use mathlib.Core.Path.{_≡_};
-ghost use Rattle.block.specs.Blocks.{total, duration, noInterval, intervalFrom, intervalBetween, blockOf, planned, refused, inside, blockingOf};
+ghost use Prim.Native.Nat.{_≤_};
+ghost use Rattle.block.specs.Blocks.{total, duration, noInterval, intervalFrom, intervalBetween, blockOf, planned, refused, countOf, leftEnd, rightEnd, inside, Says};
 use profile::Profile;
 
 mod select; // select.rt: calculate_block
@@ -142,11 +143,43 @@ impl Stretch {
             Stretch::From(left) => t > left,
         }
     }
+
+    // How many stretches it is.
+    pub fn count(self) -> u8
+        ensures { λ r. ⌜ (r ≡ countOf self) × (r ≤ 1) ⌝ }
+    {
+        match self {
+            Stretch::Nothing => 0,
+            Stretch::Between(_, _) => 1,
+            Stretch::From(_) => 1,
+        }
+    }
+
+    // Its ends: 0 for nothing, and infinity as the right end of a stretch from a time on.
+    pub fn left_end(self) -> f64
+        ensures { λ r. ⌜ r ≡ leftEnd self ⌝ }
+    {
+        match self {
+            Stretch::Nothing => 0.0,
+            Stretch::Between(left, _) => left,
+            Stretch::From(left) => left,
+        }
+    }
+
+    pub fn right_end(self) -> f64
+        ensures { λ r. ⌜ r ≡ rightEnd self ⌝ }
+    {
+        match self {
+            Stretch::Nothing => 0.0,
+            Stretch::Between(_, right) => right,
+            Stretch::From(_) => 1.0 / 0.0,
+        }
+    }
 }
 
 impl Block {
     pub fn is_blocked(self, t: f64) -> Blocking
-        ensures { λ r. ⌜ r ≡ blockingOf self t ⌝ }
+        ensures { λ r. ⌜ Says self t r ⌝ }
     {
         if !doubles::is_finite(t) {
             return Blocking::NotFinite;

@@ -9,11 +9,12 @@ use mathlib.Core.Logic.{⊎-elim}
 use borrow.Author.Tests.{lt-ltb, le-ltb, leb-true, leb-false}
 use lib.Dec.{leb}
 use Rattle.io.specs.Digits.{digits, Fewest}
+use Rattle.profile_lines.specs.Text.{ascii}
 use Rattle.profile_lines.specs.Fields.{field}
+use Rattle.block.specs.Blocks.{countOf}
 use Rattle.block.specs.declared.Stretch.{Stretch}
 use Rattle.block.specs.declared.Stretch.the-variants.{Nothing, Between, From}
 use Rattle.moves.specs.Numbers.{leastFrom, decimal}
-use Rattle.moves.specs.Lines.{countOf}
 
 module _ (n r : ℕ) (fits : n < 10 ^ r) where
   least-is : (more k : ℕ) → k ≤ r → r ≤ k + more → (k < r → 10 ^ (r - 1) ≤ n) → leastFrom k more n ≡ r
@@ -43,6 +44,10 @@ unfolding decimal
 decimal-is n r w f =
     let h : r ≤ 20 = at-most-twenty n r w f in
     ap (λ (k : ℕ). digits 10 k n) (sym (least-is n r (f .1) 19 1 (f .0) (omega arith) (f .2)))
+
+pub largest-number : decimal 0xffff_ffff_ffff_ffff ≡ ascii "18446744073709551615"
+unfolding decimal
+largest-number = refl
 
 -- a count of stretches has one digit
 pub count-field : (a b : Stretch) → 32 ∷ (48 + (countOf a + countOf b)) ∷ [] ≡ field (decimal (countOf a + countOf b))

@@ -1,4 +1,3 @@
--- The laws of `moves`, and lines as document 01 has them.
+-- The laws of `moves`.
 pub mod RecordLaws
 pub mod DecimalLaws
-pub mod SampleLines

@@ -1,35 +1,17 @@
 -- The lines of text for an answer: fields one space apart, a line feed at the end. Definitions only.
 use Prim.Native.Nat.{ℕ, _+_}
 use mathlib.Core.Bool.{cond}
-use mathlib.Core.List.{List, [], _∷_, _++_}
+use mathlib.Core.List.{List, _++_}
 use lib.Dec.{eqb}
-use lib.Ieee.{Float, binary64, ofBits}
-use Rattle.doubles.specs.Constants.{0ᶠ}
 use Rattle.profile_lines.specs.Text.{ascii}
 use Rattle.profile_lines.specs.Fields.{directionName, limitsName, field, hex, doubleFields, profileFields}
+use Rattle.block.specs.Blocks.{countOf, bothEnds, endsOf}
 use Rattle.block.specs.declared.Stretch.{Stretch}
 use Rattle.block.specs.declared.Stretch.the-variants.{Nothing, Between, From}
 use Rattle.block.specs.declared.Interval.{Interval}
 use Rattle.block.specs.declared.Block.{Block}
 use Rattle.block.specs.declared.Answer.{Answer}
 use Rattle.moves.specs.Numbers.{decimal}
-
-abbrev pub ∞ᶠ : Float
-∞ᶠ = ofBits binary64 0x7ff0_0000_0000_0000
-
--- ---- document 01's values for each case of a stretch
-
--- its ends, the left one first
-abbrev pub endsOf : Stretch → List Float
-endsOf Nothing = []
-endsOf (Between left right) = left ∷ right ∷ []
-endsOf (From left) = left ∷ ∞ᶠ ∷ []
-
--- how many stretches it is
-abbrev pub countOf : Stretch → ℕ
-countOf Nothing = 0
-countOf (Between left right) = 1
-countOf (From left) = 1
 
 -- ---- a line of `plan_moves`
 
@@ -62,14 +44,8 @@ kindOf Nothing = ascii "nothing"
 kindOf (Between left right) = ascii "between"
 kindOf (From left) = ascii "from"
 
--- the ends of nothing are zeros
-abbrev pub twoEndsOf : Stretch → List Float
-twoEndsOf Nothing = 0ᶠ ∷ 0ᶠ ∷ []
-twoEndsOf (Between left right) = endsOf (Between left right)
-twoEndsOf (From left) = endsOf (From left)
-
 unfoldable pub intervalFields : Interval → List ℕ
-intervalFields i = field (kindOf (i .stretch)) ++ doubleFields (twoEndsOf (i .stretch)) ++ profileFields (i .profile)
+intervalFields i = field (kindOf (i .stretch)) ++ doubleFields (bothEnds (i .stretch)) ++ profileFields (i .profile)
 
 unfoldable pub fullFields : Block → List ℕ
 fullFields x = field (ascii "ok") ++ field (hex (x .«t_min»)) ++ profileFields (x .«p_min») ++ intervalFields (x .a) ++ intervalFields (x .b)

@@ -1,7 +1,10 @@
 -- What the bytes of a record mean: a two-byte length of 105, version 1, then 13 doubles, the highest byte of each number first. Definitions only.
 use Prim.Native.Nat.{ℕ, _+_, _*_}
-use mathlib.Core.Bool.{Bool, not, cond, _||_}
+use mathlib.Core.Path.{_≡_}
+use mathlib.Core.Bool.{Bool, true, false, not, cond, _||_}
 use mathlib.Core.List.{List}
+use mathlib.Core.Logic.{_↔_}
+use mathlib.Core.Option.{Option, none, some}
 use lib.Dec.{eqb, ltb}
 use lib.ListN.{length, drop, getD}
 use lib.Ieee.{Float, binary64, ofBits}
@@ -9,6 +12,9 @@ use Rattle.encoding.specs.Encoding.{bigEndian}
 use Rattle.profile.specs.declared.Start.{Start}
 use Rattle.profile.specs.declared.Target.{Target}
 use Rattle.profile.specs.declared.Limits.{Limits}
+use Rattle.block.specs.Blocks.{refused}
+use Rattle.block.specs.declared.Answer.{Answer}
+use Rattle.planner.specs.Plan.{planOf}
 use Rattle.planner.specs.declared.Move.{Move}
 use Rattle.moves.specs.declared.Record.{Record}
 use Rattle.moves.specs.declared.Record.the-variants.{End, Malformed, Whole}
@@ -37,3 +43,21 @@ isMalformed b = ltb (length b) 107 || not (eqb (getD b 0 0 * 256 + getD b 1 0) 1
 -- the record that these bytes, the input's next, begin with
 unfoldable pub recordOf : List ℕ → Record
 recordOf b = cond (eqb (length b) 0) End (cond (isMalformed b) Malformed (Whole (moveOf b)))
+
+-- ---- document 01's answer and number for each case of a record
+
+-- none at the end of the input, refusal 8, or the answer to the move
+abbrev pub answerTo : Record → Option Answer
+answerTo End = none
+answerTo Malformed = some (refused 8)
+answerTo (Whole x) = some (planOf x)
+
+-- the number of that answer: 0 for a plan
+abbrev pub numberOf : Option Answer → Option ℕ
+numberOf none = none
+numberOf (some r) = some (r .refusal)
+
+-- what is read of the bytes b: the definition's record, whose number is 8 if and only if there are bytes and they begin with no record
+pub record Reads (b : List ℕ) (r : Record) : Type 0 where
+  pub record-is : r ≡ recordOf b
+  pub eight : (numberOf (answerTo r) ≡ some 8) ↔ ((eqb (length b) 0 ≡ false) × (isMalformed b ≡ true))

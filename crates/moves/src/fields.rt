@@ -1,24 +1,21 @@
 // The fields of a line that aren't a profile's: numbers in decimal, stretches, refusals. A space stands in front of each.
 
-ghost use mathlib.Core.Path.{_≡_};
 ghost use Prim.Native.Nat.{_+_, _≤_};
 ghost use lib.ListN.{length};
 ghost use Rattle.profile_lines.specs.Text.{Puts};
 ghost use Rattle.profile_lines.specs.Fields.{field, doubleFields};
+ghost use Rattle.block.specs.Blocks.{countOf, bothEnds, endsOf};
 ghost use Rattle.moves.specs.Numbers.{decimal};
-ghost use Rattle.moves.specs.Lines.{endsOf, countOf, stretchFields, planFields, refusalFields, kindOf, twoEndsOf, intervalFields, fullFields};
+ghost use Rattle.moves.specs.Lines.{stretchFields, planFields, refusalFields, kindOf, intervalFields, fullFields};
 use block::Block;
 use block::Interval;
 use block::Stretch;
-use encoding::double_of;
 use profile_lines::put;
 use profile_lines::put_direction;
 use profile_lines::put_double;
 use profile_lines::put_doubles;
 use profile_lines::put_limits;
 use profile_lines::put_profile_fields;
-
-const INFINITY_BITS: u64 = 0x7ff0_0000_0000_0000;
 
 // A number in decimal, with no space in front.
 pub fn put_decimal(out: &mut [u8], at: usize, n: u64) -> usize
@@ -38,23 +35,20 @@ fn put_number(out: &mut [u8], at: usize, n: u64) -> usize
     put_decimal(out, start, n)
 }
 
-fn count_of(s: Stretch) -> u8
-    ensures { λ r. ⌜ r ≡ countOf s ⌝ }
-    ensures { λ r. ⌜ r ≤ 1 ⌝ }
-{
-    match s {
-        Stretch::Nothing => 0,
-        Stretch::Between(_, _) => 1,
-        Stretch::From(_) => 1,
-    }
-}
-
 // How many stretches there are: 0, 1 or 2.
 fn put_count(out: &mut [u8], at: usize, a: Stretch, b: Stretch) -> usize
     requires { ⌜ at + 2 ≤ length (now out) ⌝ }
     ensures { λ r. ⌜ Puts (now (out .entry)) (now (out .exit)) at r (field (decimal (countOf a + countOf b))) 2 ⌝ }
 {
-    put(out, at, &[b' ', b'0' + (count_of(a) + count_of(b))])
+    put(out, at, &[b' ', b'0' + (a.count() + b.count())])
+}
+
+// Two ends also of nothing.
+fn put_both_ends(out: &mut [u8], at: usize, s: Stretch) -> usize
+    requires { ⌜ at + 34 ≤ length (now out) ⌝ }
+    ensures { λ r. ⌜ Puts (now (out .entry)) (now (out .exit)) at r (doubleFields (bothEnds s)) 34 ⌝ }
+{
+    put_doubles(out, at, &[s.left_end(), s.right_end()])
 }
 
 fn put_ends(out: &mut [u8], at: usize, s: Stretch) -> usize
@@ -63,8 +57,8 @@ fn put_ends(out: &mut [u8], at: usize, s: Stretch) -> usize
 {
     match s {
         Stretch::Nothing => at,
-        Stretch::Between(left, right) => put_doubles(out, at, &[left, right]),
-        Stretch::From(left) => put_doubles(out, at, &[left, double_of(INFINITY_BITS)]),
+        Stretch::Between(_, _) => put_both_ends(out, at, s),
+        Stretch::From(_) => put_both_ends(out, at, s),
     }
 }
 
@@ -115,18 +109,6 @@ fn put_kind(out: &mut [u8], at: usize, s: Stretch) -> usize
     }
 }
 
-// Two ends also of nothing.
-fn put_two_ends(out: &mut [u8], at: usize, s: Stretch) -> usize
-    requires { ⌜ at + 34 ≤ length (now out) ⌝ }
-    ensures { λ r. ⌜ Puts (now (out .entry)) (now (out .exit)) at r (doubleFields (twoEndsOf s)) 34 ⌝ }
-{
-    match s {
-        Stretch::Nothing => put_doubles(out, at, &[0.0, 0.0]),
-        Stretch::Between(_, _) => put_ends(out, at, s),
-        Stretch::From(_) => put_ends(out, at, s),
-    }
-}
-
 // A stretch and the profile beside it.
 fn put_interval(out: &mut [u8], at: usize, i: Interval) -> usize
     requires { ⌜ at + 914 ≤ length (now out) ⌝ }
@@ -135,7 +117,7 @@ fn put_interval(out: &mut [u8], at: usize, i: Interval) -> usize
     let stretch = i.stretch;
     let profile = i.profile;
     let kind_end = put_kind(out, at, stretch);
-    let ends_end = put_two_ends(out, kind_end, stretch);
+    let ends_end = put_both_ends(out, kind_end, stretch);
     put_profile_fields(out, ends_end, profile)
 }
 

@@ -3,7 +3,7 @@
 ghost use mathlib.Core.Path.{_≡_};
 ghost use Prim.Native.Nat.{_+_, _*_, _<_, _≤_};
 ghost use lib.ListN.{length};
-ghost use Rattle.moves.specs.Records.{double, startOf, targetOf, limitsOf, moveOf, isMalformed, recordOf};
+ghost use Rattle.moves.specs.Records.{double, startOf, targetOf, limitsOf, moveOf, isMalformed, Reads};
 use crate::Record;
 use encoding::double_of;
 use encoding::word;
@@ -98,7 +98,7 @@ fn is_malformed(b: &[u8]) -> bool
 
 // The record that the input's next bytes begin with.
 pub fn read_record(b: &[u8]) -> Record
-    ensures { λ r. ⌜ r ≡ recordOf (now (b .entry)) ⌝ }
+    ensures { λ r. ⌜ Reads (now (b .entry)) r ⌝ }
 {
     if b.len() == 0 {
         return Record::End;

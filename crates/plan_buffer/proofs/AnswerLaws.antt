@@ -6,19 +6,17 @@ use mathlib.Core.List.{List, _++_}
 use native.Mathlib.Omega.{arith}
 use borrow.Author.Tests.{lt-ltb, le-ltb, eq-eqb, ne-eqb}
 use lib.ListN.{length, drop, length-append}
-use lib.Ieee.{Float, eq, ofBits}
-use lib.Ieee.Scale.{finite}
-use Rattle.block.specs.Blocks.{inside, isBlocked, blockingOf}
+use lib.Ieee.{Float, eq, ofBits, ofInt}
+use Rattle.block.specs.Blocks.{kindNumber, leftEnd, rightEnd, inside, isBlocked, blockingOf, blockingNumber}
 use Rattle.block.specs.declared.Stretch.{Stretch}
 use Rattle.block.specs.declared.Stretch.the-variants.{Nothing, Between, From}
 use Rattle.block.specs.declared.Block.{Block}
 use Rattle.block.specs.declared.Answer.{Answer}
-use Rattle.block.specs.declared.Blocking.the-variants.{Blocked, Free, NotFinite}
 use Rattle.planner.specs.Plan.{planOf}
 use Rattle.planner.specs.Promise.{Promise, FiniteDuration}
 use Rattle.planner.specs.declared.Move.{Move}
-use Rattle.plan_buffer.specs.Layout.{kindNumber, leftEnd, rightEnd, elements, profileNumbers, intervalNumbers, planNumbers}
-use Rattle.plan_buffer.specs.Answers.{movedFrom, planStatus, planWritten, Planned, insideNumbers, blockingFrom, blockedStatus, blockingCode, Asked}
+use Rattle.plan_buffer.specs.Layout.{numeral, elements, profileNumbers, intervalNumbers, planNumbers}
+use Rattle.plan_buffer.specs.Answers.{movedFrom, planStatus, planWritten, Planned, insideNumbers, isBlockedFrom, blockingFrom, blockedStatus, Asked}
 use Rattle.plan_buffer.proofs.LayoutLaws.{plan-length}
 
 -- ---- planning: nothing is written unless the status is 0
@@ -60,21 +58,16 @@ module _ (mv plan : List Float) where
           }
 
 -- ---- which times are blocked
-inside-numbers : (s : Stretch) (t : Float) → insideNumbers (kindNumber s) (leftEnd s) (rightEnd s) t ≡ inside s t
-unfolding eq ofBits
+inside-numbers : (s : Stretch) (t : Float) → insideNumbers (numeral (kindNumber s)) (leftEnd s) (rightEnd s) t ≡ inside s t
+unfolding eq ofBits ofInt
 inside-numbers Nothing t = refl
 inside-numbers (Between left right) t = refl
 inside-numbers (From left) t = refl
 
-by-code : (p q : Bool) → cond p (cond q 1 0) 6 ≡ blockingCode (cond p (cond q Blocked Free) NotFinite)
-by-code false q = refl
-by-code true false = refl
-by-code true true = refl
-
 -- the buffer of a plan, whatever lies beyond it, answers for the plan
-pub blocking-of-plan : (b : Block) (rest : List Float) (t : Float) → blockingFrom (planNumbers b ++ rest) t ≡ blockingCode (blockingOf b t)
-unfolding blockingFrom planNumbers intervalNumbers profileNumbers elements blockingOf isBlocked
-blocking-of-plan b rest t = rw (inside-numbers (b .a .stretch) t, inside-numbers (b .b .stretch) t) (by-code (finite t) (isBlocked b t))
+pub blocking-of-plan : (b : Block) (rest : List Float) (t : Float) → blockingFrom (planNumbers b ++ rest) t ≡ blockingNumber (blockingOf b t)
+unfolding blockingFrom isBlockedFrom planNumbers intervalNumbers profileNumbers elements blockingOf isBlocked
+blocking-of-plan b rest t = rw (inside-numbers (b .a .stretch) t, inside-numbers (b .b .stretch) t)
 
 long-enough : (b : Block) (rest : List Float) → 166 ≤ length (planNumbers b ++ rest)
 long-enough b rest = omega (arith, length-append (planNumbers b) rest, plan-length b)

@@ -10,9 +10,8 @@ use lib.Ieee.Scale.{finite}
 use Rattle.doubles.specs.Operators.{_<ᶠ_, _==ᶠ_, at}
 use Rattle.doubles.specs.Constants.{1ᶠ, 2ᶠ}
 use Rattle.block.specs.declared.Block.{Block}
-use Rattle.block.specs.declared.Blocking.{Blocking}
 use Rattle.block.specs.declared.Blocking.the-variants.{Blocked, Free, NotFinite}
-use Rattle.block.specs.Blocks.{blockingOf}
+use Rattle.block.specs.Blocks.{blockingOf, blockingNumber}
 use Rattle.block.specs.Plans.{Each}
 use Rattle.planner.specs.Plan.{planOf}
 use Rattle.planner.specs.Promise.{Arrives, FiniteDuration}
@@ -53,26 +52,19 @@ pub record Planned (mv plan : List Float) (status : ℕ) (after : List Float) : 
 abbrev pub insideNumbers : (kind left right t : Float) → Bool
 insideNumbers kind left right t = cond (kind ==ᶠ 1ᶠ) ((left <ᶠ t) && (t <ᶠ right)) (cond (kind ==ᶠ 2ᶠ) (left <ᶠ t) false)
 
--- 6 where t isn't finite; else 1 for blocked: too short, or inside a stretch; else 0
+-- too short, or inside a stretch
+unfoldable pub isBlockedFrom : List Float → Float → Bool
+isBlockedFrom plan t = (t <ᶠ at plan 0) || insideNumbers (at plan 54) (at plan 55) (at plan 56) t || insideNumbers (at plan 110) (at plan 111) (at plan 112) t
+
+-- the number of `is_blocked`'s answer: 0 free, 1 blocked, 6 where t isn't finite
 unfoldable pub blockingFrom : List Float → Float → ℕ
-blockingFrom plan t =
-    cond (finite t)
-    (cond
-    ((t <ᶠ at plan 0) || insideNumbers (at plan 54) (at plan 55) (at plan 56) t || insideNumbers (at plan 110) (at plan 111) (at plan 112) t)
-    1 0)
-    6
+blockingFrom plan t = blockingNumber (cond (finite t) (cond (isBlockedFrom plan t) Blocked Free) NotFinite)
 
 -- 9 where the buffer is shorter than a plan
 unfoldable pub blockedStatus : List Float → Float → ℕ
 blockedStatus plan t = cond (ltb (length plan) 166) 9 (blockingFrom plan t)
 
--- the number for each answer of `is_blocked`
-abbrev pub blockingCode : Blocking → ℕ
-blockingCode Free = 0
-blockingCode Blocked = 1
-blockingCode NotFinite = 6
-
 -- what is answered: for any buffer its status, and for one that holds a plan the answer of `is_blocked`
 pub record Asked (plan : List Float) (t : Float) (status : ℕ) : Type 0 where
   pub status-is : status ≡ blockedStatus plan t
-  pub of-plan : (b : Block) (rest : List Float) → plan ≡ planNumbers b ++ rest → status ≡ blockingCode (blockingOf b t)
+  pub of-plan : (b : Block) (rest : List Float) → plan ≡ planNumbers b ++ rest → status ≡ blockingNumber (blockingOf b t)

@@ -4,7 +4,9 @@ ghost use mathlib.Core.Path.{_≡_};
 ghost use Prim.Native.Nat.{_+_, _≤_};
 ghost use mathlib.Core.List.{_++_};
 ghost use lib.ListN.{length, drop};
-ghost use Rattle.plan_buffer.specs.Layout.{directionNumber, limitsNumber, signsNumber, kindNumber, leftEnd, rightEnd, elements, profileNumbers, intervalNumbers, planNumbers};
+ghost use Rattle.profile.specs.Names.{directionNumber, limitsNumber, controlSignsNumber};
+ghost use Rattle.block.specs.Blocks.{kindNumber};
+ghost use Rattle.plan_buffer.specs.Layout.{numeral, elements, profileNumbers, intervalNumbers, planNumbers};
 ghost use Rattle.plan_buffer.specs.Steps.{stored};
 use block::Block;
 use block::Interval;
@@ -14,67 +16,53 @@ use profile::Direction;
 use profile::Profile;
 use profile::ReachedLimits;
 
-fn direction_number(direction: Direction) -> f64
+fn direction_number(direction: Direction) -> u32
     ensures { λ r. ⌜ r ≡ directionNumber direction ⌝ }
 {
     match direction {
-        Direction::UP => 0.0,
-        Direction::DOWN => 1.0,
+        Direction::UP => 0,
+        Direction::DOWN => 1,
     }
 }
 
-fn limits_number(limits: ReachedLimits) -> f64
+fn limits_number(limits: ReachedLimits) -> u32
     ensures { λ r. ⌜ r ≡ limitsNumber limits ⌝ }
 {
     match limits {
-        ReachedLimits::Acc0Acc1Vel => 0.0,
-        ReachedLimits::Vel => 1.0,
-        ReachedLimits::Acc0 => 2.0,
-        ReachedLimits::Acc1 => 3.0,
-        ReachedLimits::Acc0Acc1 => 4.0,
-        ReachedLimits::Acc0Vel => 5.0,
-        ReachedLimits::Acc1Vel => 6.0,
-        ReachedLimits::None => 7.0,
+        ReachedLimits::Acc0Acc1Vel => 0,
+        ReachedLimits::Vel => 1,
+        ReachedLimits::Acc0 => 2,
+        ReachedLimits::Acc1 => 3,
+        ReachedLimits::Acc0Acc1 => 4,
+        ReachedLimits::Acc0Vel => 5,
+        ReachedLimits::Acc1Vel => 6,
+        ReachedLimits::None => 7,
     }
 }
 
-fn signs_number(control_signs: ControlSigns) -> f64
-    ensures { λ r. ⌜ r ≡ signsNumber «control_signs» ⌝ }
+fn control_signs_number(control_signs: ControlSigns) -> u32
+    ensures { λ r. ⌜ r ≡ controlSignsNumber «control_signs» ⌝ }
 {
     match control_signs {
-        ControlSigns::UDDU => 0.0,
-        ControlSigns::UDUD => 1.0,
+        ControlSigns::UDDU => 0,
+        ControlSigns::UDUD => 1,
     }
 }
 
-fn kind_number(stretch: Stretch) -> f64
+fn kind_number(stretch: Stretch) -> u32
     ensures { λ r. ⌜ r ≡ kindNumber stretch ⌝ }
 {
     match stretch {
-        Stretch::Nothing => 0.0,
-        Stretch::Between(_, _) => 1.0,
-        Stretch::From(_) => 2.0,
+        Stretch::Nothing => 0,
+        Stretch::Between(_, _) => 1,
+        Stretch::From(_) => 2,
     }
 }
 
-fn left_end(stretch: Stretch) -> f64
-    ensures { λ r. ⌜ r ≡ leftEnd stretch ⌝ }
+fn numeral(n: u32) -> f64
+    ensures { λ r. ⌜ r ≡ numeral n ⌝ }
 {
-    match stretch {
-        Stretch::Nothing => 0.0,
-        Stretch::Between(left, _) => left,
-        Stretch::From(left) => left,
-    }
-}
-
-fn right_end(stretch: Stretch) -> f64
-    ensures { λ r. ⌜ r ≡ rightEnd stretch ⌝ }
-{
-    match stretch {
-        Stretch::Nothing => 0.0,
-        Stretch::Between(_, right) => right,
-        Stretch::From(_) => 1.0 / 0.0,
-    }
+    n as f64
 }
 
 // The numbers of x from `at` on.
@@ -130,9 +118,9 @@ fn put_profile(out: &mut [f64], at: usize, q: Profile)
     let limits = q.limits;
     let control_signs = q.control_signs;
     let names = [
-        direction_number(direction),
-        limits_number(limits),
-        signs_number(control_signs),
+        numeral(direction_number(direction)),
+        numeral(limits_number(limits)),
+        numeral(control_signs_number(control_signs)),
     ];
     let t = q.t;
     let t_sum = q.t_sum;
@@ -153,7 +141,11 @@ fn put_interval(out: &mut [f64], at: usize, i: Interval)
 {
     let stretch = i.stretch;
     let profile = i.profile;
-    let ends = [kind_number(stretch), left_end(stretch), right_end(stretch)];
+    let ends = [
+        numeral(kind_number(stretch)),
+        stretch.left_end(),
+        stretch.right_end(),
+    ];
     put(out, at, &ends);
     put_profile(out, at + 3, profile);
 }

@@ -1,4 +1,3 @@
 -- The laws of `profile_check`.
 pub mod CheckLaws
 pub mod Accepted
-pub mod Resting

@@ -1,9 +1,13 @@
 -- The table of shop checks holds: one statement, by computation. Assumes nothing.
-use mathlib.Core.Path.{refl}
+use Prim.Native.Nat.{ℕ}
+use mathlib.Core.Path.{_≡_, refl, ap, _∙_}
+use mathlib.Core.List.{List}
 use lib.Ieee.{ofBits, toBits, add, sub, mul, div, neg, lt, le, eq}
+use Rattle.encoding.specs.Encoding.{hexDigit}
 use Rattle.doubles.specs.Functions.{absᶠ}
 use Rattle.profile.specs.Boundary.{withBoundary, emptyProfile}
 use Rattle.profile.specs.Limits.{swappedLimits, directionOf, boundsOf}
+use Rattle.profile_lines.specs.Fields.{hex, doubleFields}
 use Rattle.profile_rows.specs.Rows.{sums, jerkIf, jerks, rowAfter, storedIf, outerRow, middleRow, rowsOf}
 use Rattle.profile_check.specs.Check.{timesPass, phasesPass, sumPasses, zeroPasses, zerosPass, endPasses, rowsPass, accepted, filled, checked}
 use Rattle.elementary.specs.Functions.{sqrtOf, cbrtOf, cosineOf, sineOf}
@@ -35,18 +39,28 @@ use Rattle.block.specs.Selection.{near, ofTwo, selected}
 use Rattle.get_profile.specs.Families.{unlessFound, firstOf}
 use Rattle.get_profile.specs.GetProfile.{towardsTarget, resting, twoStep, firstSearch, tryFamilies, afterPassing, singleStepAnswer, getProfileBy, getProfile, getProfileAnswer}
 use Rattle.planner.specs.Plan.{finiteStart, finiteTarget, finiteLimits, finiteMove, wrongSign, wrongDuration, planOf}
-use Rattle.shop_checks.specs.Lines.{lineOf}
-use Rattle.shop_checks.specs.ShopChecks.{ShopChecks}
+use Rattle.planner.specs.declared.Move.{Move}
+use Rattle.moves.specs.Numbers.{decimal}
+use Rattle.moves.specs.Records.{double, startOf, targetOf, limitsOf, moveOf, isMalformed, recordOf}
+use Rattle.moves.specs.Lines.{stretchFields, planFields, refusalFields, answerFields, lineOf}
+use Rattle.moves.specs.Replies.{replyOf}
+use Rattle.moves.specs.declared.Record.the-variants.{Whole}
+use Rattle.shop_checks.specs.Records.{recordBytes}
+use Rattle.shop_checks.specs.ShopChecks.{ShopChecks, move-1, move-2, move-2-down, move-3, move-4}
+
+-- the record's bytes are read as the move, whose answer has that line
+by-move : (n : ℕ) (x : Move) {line : List ℕ} → recordOf (recordBytes x) ≡ Whole x → lineOf n (planOf x) ≡ line → replyOf lineOf n (recordOf (recordBytes x)) ≡ line
+by-move n x e h = ap (replyOf lineOf n) e ∙ h
 
 pub shop-checks : ShopChecks
-unfolding lineOf planOf finiteMove finiteStart finiteTarget finiteLimits wrongSign wrongDuration withBoundary emptyProfile getProfileAnswer getProfile getProfileBy hasZeroLimit tryFamilies firstSearch endsAtRest restsAtTarget pointsUp towardsTarget resting twoStep firstOf unlessFound run bind inTurn answered onlyIf added stored freshList profileOf filled swappedLimits constantsOf noneAcc0Acc1Tries noneRoots rootsIf h2None polynomNone rangeNone triesFor reachedBy timesBy isSkipped timesNone correctedNone newtonNone acc0Roots h0Acc0 h2Acc0 h3Acc0 polynomAcc0 rangeAcc0 shiftedQuartic hasSolution timesAcc0 correctedAcc0 newtonAcc0 acc1Roots h0Acc1 h2Acc1 h3Acc1 polynomAcc1 rangeAcc1 timesAcc1 correctedAcc1 noneTwoStepTries noneTwoStepRadicand scaledRoot timesNoneTwoStep timesNoneSingleStep allVelTries t3Acc0Acc1Vel timesAcc0Acc1Vel singleStepTries changesAcceleration startsAccelerated startsMoving startsAtTarget timesAtConstantSpeed acceptance singleStepAnswer afterPassing selected ofTwo near total duration planned refused blockOf emptyBlock noInterval intervalFrom intervalBetween blockingOf isBlocked checked passes accepted timesPass phasesPass sumPasses zeroPasses zerosPass endPasses rowsPass sums jerkIf jerks rowAfter storedIf outerRow middleRow rowsOf boundsOf directionOf quarticOf withQuadratic inserted ascendingOf sortedFrom placed sqrtOf cbrtOf cosineOf sineOf ofBits add sub mul div neg lt le eq absᶠ toBits
+unfolding recordBytes recordOf isMalformed moveOf startOf targetOf limitsOf double lineOf answerFields planFields refusalFields stretchFields decimal doubleFields hex hexDigit planOf finiteMove finiteStart finiteTarget finiteLimits wrongSign wrongDuration withBoundary emptyProfile getProfileAnswer getProfile getProfileBy hasZeroLimit tryFamilies firstSearch endsAtRest restsAtTarget pointsUp towardsTarget resting twoStep firstOf unlessFound run bind inTurn answered onlyIf added stored freshList profileOf filled swappedLimits constantsOf noneAcc0Acc1Tries noneRoots rootsIf h2None polynomNone rangeNone triesFor reachedBy timesBy isSkipped timesNone correctedNone newtonNone acc0Roots h0Acc0 h2Acc0 h3Acc0 polynomAcc0 rangeAcc0 shiftedQuartic hasSolution timesAcc0 correctedAcc0 newtonAcc0 acc1Roots h0Acc1 h2Acc1 h3Acc1 polynomAcc1 rangeAcc1 timesAcc1 correctedAcc1 noneTwoStepTries noneTwoStepRadicand scaledRoot timesNoneTwoStep timesNoneSingleStep allVelTries t3Acc0Acc1Vel timesAcc0Acc1Vel singleStepTries changesAcceleration startsAccelerated startsMoving startsAtTarget timesAtConstantSpeed acceptance singleStepAnswer afterPassing selected ofTwo near total duration planned refused blockOf emptyBlock noInterval intervalFrom intervalBetween blockingOf isBlocked checked passes accepted timesPass phasesPass sumPasses zeroPasses zerosPass endPasses rowsPass sums jerkIf jerks rowAfter storedIf outerRow middleRow rowsOf boundsOf directionOf quarticOf withQuadratic inserted ascendingOf sortedFrom placed sqrtOf cbrtOf cosineOf sineOf ofBits add sub mul div neg lt le eq absᶠ toBits
 shop-checks =
     record {
-      line-1 = refl;
-      line-2 = refl;
-      line-3 = refl;
-      line-4 = refl;
-      line-2-down = refl;
+      line-1 = by-move 1 move-1 refl refl;
+      line-2 = by-move 2 move-2 refl refl;
+      line-3 = by-move 3 move-3 refl refl;
+      line-4 = by-move 4 move-4 refl refl;
+      line-2-down = by-move 2 move-2-down refl refl;
       move-3-at-2½ = refl;
       move-3-at-3 = refl;
       move-3-at-4 = refl;

@@ -1,5 +1,6 @@
 -- `block::Block::is_blocked` meets its contract. Assumes nothing.
 use Rattle.block.specs.Blocks.{isBlocked, blockingOf}
+use Rattle.block.proofs.BlockingLaws.{says}
 use borrow.Author.Tests.{not-true, not-false}
 use borrow.Author.Needs.{needs}
 use Rattle.block.proofs.Block.is_blocked.Statement.{statement}
@@ -7,15 +8,15 @@ use Rattle.block.proofs.Block.is_blocked.Tie as tie
 
 returns : tie.Need-returns
 unfolding blockingOf isBlocked
-returns c = rw (← c .before .is-finite .ensures, not-true (c .before .is-finite .result) (c .if1 .taken))
+returns c = says _ _ _ (rw (← c .before .is-finite .ensures, not-true (c .before .is-finite .result) (c .if1 .taken)))
 
 returns-2 : tie.Need-returns-2
 unfolding blockingOf isBlocked
-returns-2 c = rw (← c .before .before .before .before .before .before .before .is-finite .ensures, not-false (c .before .before .before .before .before .before .before .is-finite .result) (c .before .before .before .before .before .before .if1 .left), ← c .before .before .contains .ensures, ← c .before .contains2 .ensures, c .if2 .taken)
+returns-2 c = says _ _ _ (rw (← c .before .before .before .before .before .before .before .is-finite .ensures, not-false (c .before .before .before .before .before .before .before .is-finite .result) (c .before .before .before .before .before .before .if1 .left), ← c .before .before .contains .ensures, ← c .before .contains2 .ensures, c .if2 .taken))
 
 returns-3 : tie.Need-returns-3
 unfolding blockingOf isBlocked
-returns-3 c = rw (← c .before .before .before .before .before .before .before .is-finite .ensures, not-false (c .before .before .before .before .before .before .before .is-finite .result) (c .before .before .before .before .before .before .if1 .left), ← c .before .before .contains .ensures, ← c .before .contains2 .ensures, c .if2 .left)
+returns-3 c = says _ _ _ (rw (← c .before .before .before .before .before .before .before .is-finite .ensures, not-false (c .before .before .before .before .before .before .before .is-finite .result) (c .before .before .before .before .before .before .if1 .left), ← c .before .before .contains .ensures, ← c .before .contains2 .ensures, c .if2 .left))
 
 pub is-blocked-spec : {M : Type 1} → statement M
 is-blocked-spec =

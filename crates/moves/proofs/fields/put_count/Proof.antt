@@ -5,7 +5,7 @@ use Rattle.moves.proofs.fields.put_count.Statement.{statement}
 use Rattle.moves.proofs.fields.put_count.Tie as tie
 
 returns : tie.Need-returns
-returns c = rw (c .before .before .before .before .before .count-of .ensures .0, c .before .before .before .before .count-of2 .ensures .0, count-field) at (c .before .before .put .ensures)
+returns c = rw (c .before .before .before .before .before .count .ensures .0, c .before .before .before .before .count2 .ensures .0, count-field) at (c .before .before .put .ensures)
 
 pub put-count-spec : {M : Type 1} → statement M
 put-count-spec =

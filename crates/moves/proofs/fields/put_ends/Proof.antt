@@ -2,7 +2,6 @@
 use native.Mathlib.Omega.{arith}
 use Rattle.profile_lines.proofs.PutLaws.{nothing, within}
 use Rattle.profile_lines.specs.Fields.{doubleFields}
-use mathlib.Core.Path.{sym}
 use borrow.Author.Needs.{needs}
 use Rattle.moves.proofs.fields.put_ends.Statement.{statement}
 use Rattle.moves.proofs.fields.put_ends.Tie as tie
@@ -12,19 +11,16 @@ unfolding doubleFields
 returns c = rw (c .enum-told .given .1) (within (omega arith) nothing)
 
 returns-2 : tie.Need-returns-2
-returns-2 c = rw (c .before .before .before .before .before .before .s .given .1) (c .before .before .put-doubles .ensures)
+returns-2 c = let e = c .before .before .before .before .enum-told2 .given .1 in rw e (rw e at (c .before .before .put-both-ends .ensures))
 
 returns-3 : tie.Need-returns-3
-returns-3 c = rw (c .before .before .before .before .before .before .before .s2 .given .1, sym (c .before .before .before .before .double-of .ensures)) (c .before .before .put-doubles2 .ensures)
+returns-3 c = let e = c .before .before .before .before .enum-told3 .given .1 in rw e (rw e at (c .before .before .put-both-ends2 .ensures))
 
 pub put-ends-spec : {M : Type 1} → statement M
 put-ends-spec =
     tie.close
     (tie.spec
     (λ c. search needs)
-    (λ c. search needs)
-    (λ c. search needs)
-    (λ c κs. search needs)
     (λ c. search needs)
     (λ c κs. search needs)
     (λ c. search needs)

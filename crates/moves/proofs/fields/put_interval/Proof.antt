@@ -7,7 +7,7 @@ use Rattle.moves.proofs.fields.put_interval.Tie as tie
 
 returns : tie.Need-returns
 unfolding intervalFields
-returns c = then (then (c .before .before .before .before .before .before .before .before .before .before .put-kind .ensures) (c .before .before .before .before .before .before .put-two-ends .ensures)) (c .before .before .put-profile-fields .ensures)
+returns c = then (then (c .before .before .before .before .before .before .before .before .before .before .put-kind .ensures) (c .before .before .before .before .before .before .put-both-ends .ensures)) (c .before .before .put-profile-fields .ensures)
 
 pub put-interval-spec : {M : Type 1} → statement M
 put-interval-spec =

@@ -1,20 +1,20 @@
 -- `plan_buffer::read::blocking` meets its contract. Assumes nothing.
 use borrow.Author.Tests.{not-true, not-false}
-use Rattle.plan_buffer.specs.Answers.{blockingFrom}
+use Rattle.plan_buffer.specs.Answers.{isBlockedFrom, blockingFrom}
 use borrow.Author.Needs.{needs}
 use Rattle.plan_buffer.proofs.read.blocking.Statement.{statement}
 use Rattle.plan_buffer.proofs.read.blocking.Tie as tie
 
 returns : tie.Need-returns
-unfolding blockingFrom
+unfolding blockingFrom isBlockedFrom
 returns c = rw (← c .before .is-finite .ensures, not-true (c .before .is-finite .result) (c .if1 .taken))
 
 returns-2 : tie.Need-returns-2
-unfolding blockingFrom
+unfolding blockingFrom isBlockedFrom
 returns-2 c = rw (← c .before .before .before .before .before .before .before .before .before .before .before .is-finite .ensures, not-false (c .before .before .before .before .before .before .before .before .before .before .before .is-finite .result) (c .before .before .before .before .before .before .before .before .before .before .if1 .left), ← c .before .before .before .before .before .before .inside .ensures, ← c .before .before .inside2 .ensures, c .if2 .taken)
 
 returns-3 : tie.Need-returns-3
-unfolding blockingFrom
+unfolding blockingFrom isBlockedFrom
 returns-3 c = rw (← c .before .before .before .before .before .before .before .before .before .before .before .is-finite .ensures, not-false (c .before .before .before .before .before .before .before .before .before .before .before .is-finite .result) (c .before .before .before .before .before .before .before .before .before .before .if1 .left), ← c .before .before .before .before .before .before .inside .ensures, ← c .before .before .inside2 .ensures, c .if2 .left)
 
 pub blocking-spec : {M : Type 1} → statement M

@@ -1,9 +1,9 @@
--- `plan_buffer::write::right_end` meets its contract. Assumes nothing.
+-- `block::Stretch::right_end` meets its contract. Assumes nothing.
 use lib.Ieee.{div, ofBits}
 use mathlib.Core.Path.{refl}
 use borrow.Author.Needs.{needs}
-use Rattle.plan_buffer.proofs.write.right_end.Statement.{statement}
-use Rattle.plan_buffer.proofs.write.right_end.Tie as tie
+use Rattle.block.proofs.Stretch.right_end.Statement.{statement}
+use Rattle.block.proofs.Stretch.right_end.Tie as tie
 
 returns-3 : tie.Need-returns-3
 unfolding div ofBits
