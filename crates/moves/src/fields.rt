@@ -48,7 +48,9 @@ fn put_both_ends(out: &mut [u8], at: usize, s: Stretch) -> usize
     requires { ⌜ at + 34 ≤ length (now out) ⌝ }
     ensures { λ r. ⌜ Puts (now (out .entry)) (now (out .exit)) at r (doubleFields (bothEnds s)) 34 ⌝ }
 {
-    put_doubles(out, at, &[s.left_end(), s.right_end()])
+    let left = s.left_end();
+    let right = s.right_end();
+    put_doubles(out, at, &[left, right])
 }
 
 fn put_ends(out: &mut [u8], at: usize, s: Stretch) -> usize

@@ -4,3 +4,4 @@ pub mod MovingAnswers
 pub mod Passing
 pub mod Turning
 pub mod WorkedMoves
+pub mod RefusedRecords

@@ -1,5 +1,7 @@
--- Moves that show what the promise of demand 3 is about, and in which order moves are turned back. Definitions only.
+-- Moves that show what the promise of demand 3 is about, and in which order moves and records are turned back. Definitions only.
 use mathlib.Core.Path.{_≡_}
+use mathlib.Core.List.{[], _∷_, _++_}
+use lib.ListN.{take, set}
 use lib.Ieee.{Float, nan, binary64, ofBits, neg}
 use Rattle.doubles.specs.Constants.{0ᶠ, ½ᶠ, 1ᶠ, 2ᶠ, 3ᶠ, 4ᶠ, 6ᶠ}
 use Rattle.block.specs.Blocks.{refused}
@@ -7,6 +9,11 @@ use Rattle.block.specs.declared.Stretch.the-variants.{Between}
 use Rattle.planner.specs.Plan.{planOf}
 use Rattle.planner.specs.Promise.{Promise}
 use Rattle.planner.specs.declared.Move.{Move}
+use Rattle.profile_lines.specs.Text.{ascii}
+use Rattle.moves.specs.Records.{recordOf}
+use Rattle.moves.specs.Lines.{lineOf}
+use Rattle.moves.specs.Replies.{replyOf}
+use Rattle.shop_checks.specs.Records.{recordBytes}
 use Rattle.shop_checks.specs.ShopChecks.{move-1, move-2, move-4}
 
 -- from 0 to 6 at the speed 2, the largest: in 3 s as it is, or in 6 s by way of a rest
@@ -58,3 +65,14 @@ pub record RefusalsInOrder : Type 0 where
   pub duration-wrong : planOf (wrong 0ᶠ 0ᶠ (neg 1ᶠ)) ≡ refused 3
   pub none-accepted : planOf move-4 ≡ refused 4
   pub four-accepted : planOf turning ≡ refused 5
+
+-- refusal 8, also of a record whose numbers are wrong: the input ends after 106 bytes or after one, the length is 104, the version 2. No byte is no record, and a byte
+-- behind a whole one isn't read
+pub record RefusedRecords : Type 0 where
+  pub cut : replyOf lineOf 1 (recordOf (take 106 (recordBytes move-4))) ≡ ascii "1 refused 8\n"
+  pub cut-at-once : replyOf lineOf 1 (recordOf (take 1 (recordBytes move-4))) ≡ ascii "1 refused 8\n"
+  pub wrong-length : replyOf lineOf 1 (recordOf (set (recordBytes move-4) 1 104)) ≡ ascii "1 refused 8\n"
+  pub wrong-version : replyOf lineOf 1 (recordOf (set (recordBytes move-4) 2 2)) ≡ ascii "1 refused 8\n"
+  pub before-1 : replyOf lineOf 1 (recordOf (set (recordBytes (wrong nan 1ᶠ 0ᶠ)) 2 2)) ≡ ascii "1 refused 8\n"
+  pub nothing : replyOf lineOf 1 (recordOf []) ≡ []
+  pub behind : replyOf lineOf 1 (recordOf (recordBytes (wrong nan 1ᶠ 0ᶠ) ++ 7 ∷ [])) ≡ ascii "1 refused 1\n"

@@ -1,7 +1,7 @@
-// Document 01's shop checks, and worked moves beside them, as contracts: no code. All are proved by computation.
+// Document 01's shop checks, and worked moves and records beside them, as contracts: no code. All are proved by computation.
 
 ghost use Rattle.shop_checks.specs.ShopChecks.{ShopChecks};
-ghost use Rattle.shop_checks.specs.WorkedMoves.{PromiseApplies, RefusalsInOrder};
+ghost use Rattle.shop_checks.specs.WorkedMoves.{PromiseApplies, RefusalsInOrder, RefusedRecords};
 
 // All ● lines of document 01: one table, proved by one statement.
 pub fn shop_checks()
@@ -16,4 +16,9 @@ pub fn promise_applies()
 // Refusals 1 to 5, each on a move.
 pub fn refusals_in_order()
     ensures { λ _. ⌜ RefusalsInOrder ⌝ }
+{}
+
+// Refusal 8 in each of its forms, before any other.
+pub fn refused_records()
+    ensures { λ _. ⌜ RefusedRecords ⌝ }
 {}

@@ -4,7 +4,7 @@ use Rattle.moves.proofs.fields.put_both_ends.Statement.{statement}
 use Rattle.moves.proofs.fields.put_both_ends.Tie as tie
 
 returns : tie.Need-returns
-returns c = rw (c .before .before .before .before .before .left-end .ensures, c .before .before .before .before .right-end .ensures) at (c .before .before .put-doubles .ensures)
+returns c = rw (c .before .before .before .before .before .before .left-end .ensures, c .before .before .before .before .before .right-end .ensures) at (c .before .before .put-doubles .ensures)
 
 pub put-both-ends-spec : {M : Type 1} → statement M
 put-both-ends-spec =

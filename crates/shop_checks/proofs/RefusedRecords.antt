@@ -1,0 +1,23 @@
+-- Refusal 8, by computation. Assumes nothing.
+use mathlib.Core.Path.{refl}
+use lib.Ieee.{ofBits, toBits, neg}
+use Rattle.block.specs.Blocks.{refused}
+use Rattle.planner.specs.Plan.{finiteStart, finiteMove, planOf}
+use Rattle.moves.specs.Numbers.{decimal}
+use Rattle.moves.specs.Records.{double, startOf, targetOf, limitsOf, moveOf, isMalformed, recordOf}
+use Rattle.moves.specs.Lines.{refusalFields, answerFields, lineOf}
+use Rattle.shop_checks.specs.Records.{recordBytes}
+use Rattle.shop_checks.specs.WorkedMoves.{RefusedRecords}
+
+pub refused-records : RefusedRecords
+unfolding recordBytes recordOf isMalformed moveOf startOf targetOf limitsOf double lineOf answerFields refusalFields decimal planOf finiteMove finiteStart refused toBits ofBits neg
+refused-records =
+    record {
+      cut = refl;
+      cut-at-once = refl;
+      wrong-length = refl;
+      wrong-version = refl;
+      before-1 = refl;
+      nothing = refl;
+      behind = refl;
+    }
