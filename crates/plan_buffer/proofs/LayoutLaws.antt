@@ -9,7 +9,7 @@ use Rattle.profile.specs.declared.Profile.{Profile}
 use Rattle.block.specs.Blocks.{kindNumber, leftEnd, rightEnd}
 use Rattle.block.specs.declared.Interval.{Interval}
 use Rattle.block.specs.declared.Block.{Block}
-use Rattle.plan_buffer.specs.Layout.{numeral, elements, profileNumbers, intervalNumbers, planNumbers}
+use Rattle.plan_buffer.specs.Layout.{numeral, elements, names, profileNumbers, intervalNumbers, planNumbers}
 use Rattle.plan_buffer.specs.Steps.{stored}
 use Rattle.plan_buffer.proofs.StoreLaws.{store-store, store-front}
 
@@ -19,7 +19,10 @@ unfolding planNumbers intervalNumbers profileNumbers elements
 plan-length b = refl
 
 module _ (o₀ o₁ o₂ o₃ o₄ : List Float) (i : ℕ) where
-  pub profile-stored : (q : Profile) (x y z : Float) → x ≡ numeral (directionNumber (q .direction)) → y ≡ numeral (limitsNumber (q .limits)) → z ≡ numeral (controlSignsNumber (q .«control_signs»))
+  pub profile-stored : (q : Profile) (x y z : Float)
+      → x ≡ numeral (directionNumber (q .direction))
+      → y ≡ numeral (limitsNumber (q .limits))
+      → z ≡ numeral (controlSignsNumber (q .«control_signs»))
       → o₁ ≡ stored o₀ i (x ∷ y ∷ z ∷ [])
       → o₂ ≡ stored o₁ (i + 3) (elements 7 (q .t) ++ elements 7 (q .«t_sum») ++ elements 7 (q .j))
       → o₃ ≡ stored o₂ (i + 24) (elements 8 (q .a) ++ elements 8 (q .v) ++ elements 8 (q .p))
@@ -27,7 +30,7 @@ module _ (o₀ o₁ o₂ o₃ o₄ : List Float) (i : ℕ) where
       → o₄ ≡ stored o₀ i (profileNumbers q)
   unfolding profileNumbers elements
   profile-stored q x y z ex ey ez p r s t =
-      let p' : o₁ ≡ stored o₀ i (numeral (directionNumber (q .direction)) ∷ numeral (limitsNumber (q .limits)) ∷ numeral (controlSignsNumber (q .«control_signs»)) ∷ []) = rw (← ex, ← ey, ← ez) p in
+      let p' : o₁ ≡ stored o₀ i (names q) = rw (← ex, ← ey, ← ez) p in
       store-store o₀ o₃ o₄ i _ _ _ (store-store o₀ o₂ o₃ i _ _ _ (store-store o₀ o₁ o₂ i _ _ _ p' r refl) s refl) t refl
 
 module _ (o₀ o₁ o₂ : List Float) (i : ℕ) where

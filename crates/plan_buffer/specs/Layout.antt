@@ -24,10 +24,14 @@ firsts (suc n) s = s 0 ∷ firsts n (λ i. s (suc i))
 unfoldable pub elements : ℕ → List Float → List Float
 elements n l = firsts n (at l)
 
+-- direction, limits, control signs
+abbrev pub names : Profile → List Float
+names q = numeral (directionNumber (q .direction)) ∷ numeral (limitsNumber (q .limits)) ∷ numeral (controlSignsNumber (q .«control_signs»)) ∷ []
+
 -- 0 direction, 1 limits, 2 control signs, 3 t, 10 t_sum, 17 j, 24 a, 32 v, 40 p, 48 pf, 49 vf, 50 af, 51 brake, 52 accel
 unfoldable pub profileNumbers : Profile → List Float
 profileNumbers q =
-    (numeral (directionNumber (q .direction)) ∷ numeral (limitsNumber (q .limits)) ∷ numeral (controlSignsNumber (q .«control_signs»)) ∷ [])
+    names q
     ++ elements 7 (q .t)
     ++ elements 7 (q .«t_sum»)
     ++ elements 7 (q .j)
