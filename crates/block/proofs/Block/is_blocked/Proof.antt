@@ -12,11 +12,17 @@ returns c = says _ _ _ (rw (← c .before .is-finite .ensures, not-true (c .befo
 
 returns-2 : tie.Need-returns-2
 unfolding blockingOf isBlocked
-returns-2 c = says _ _ _ (rw (← c .before .before .before .before .before .before .before .is-finite .ensures, not-false (c .before .before .before .before .before .before .before .is-finite .result) (c .before .before .before .before .before .before .if1 .left), ← c .before .before .contains .ensures, ← c .before .contains2 .ensures, c .if2 .taken))
+returns-2 c =
+    let finite-time = c .before .before .before .before .before .before in
+    let test = finite-time .before .is-finite in
+    says _ _ _ (rw (← test .ensures, not-false (test .result) (finite-time .if1 .left), ← c .before .before .contains .ensures, ← c .before .contains2 .ensures, c .if2 .taken))
 
 returns-3 : tie.Need-returns-3
 unfolding blockingOf isBlocked
-returns-3 c = says _ _ _ (rw (← c .before .before .before .before .before .before .before .is-finite .ensures, not-false (c .before .before .before .before .before .before .before .is-finite .result) (c .before .before .before .before .before .before .if1 .left), ← c .before .before .contains .ensures, ← c .before .contains2 .ensures, c .if2 .left))
+returns-3 c =
+    let finite-time = c .before .before .before .before .before .before in
+    let test = finite-time .before .is-finite in
+    says _ _ _ (rw (← test .ensures, not-false (test .result) (finite-time .if1 .left), ← c .before .before .contains .ensures, ← c .before .contains2 .ensures, c .if2 .left))
 
 pub is-blocked-spec : {M : Type 1} → statement M
 is-blocked-spec =

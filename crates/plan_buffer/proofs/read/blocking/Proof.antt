@@ -11,11 +11,17 @@ returns c = rw (← c .before .is-finite .ensures, not-true (c .before .is-finit
 
 returns-2 : tie.Need-returns-2
 unfolding blockingFrom isBlockedFrom
-returns-2 c = rw (← c .before .before .before .before .before .before .before .before .before .before .before .is-finite .ensures, not-false (c .before .before .before .before .before .before .before .before .before .before .before .is-finite .result) (c .before .before .before .before .before .before .before .before .before .before .if1 .left), ← c .before .before .before .before .before .before .inside .ensures, ← c .before .before .inside2 .ensures, c .if2 .taken)
+returns-2 c =
+    let finite-time = c .before .before .before .before .before .before .before .before .before .before in
+    let test = finite-time .before .is-finite in
+    rw (← test .ensures, not-false (test .result) (finite-time .if1 .left), ← c .before .before .before .before .before .before .inside .ensures, ← c .before .before .inside2 .ensures, c .if2 .taken)
 
 returns-3 : tie.Need-returns-3
 unfolding blockingFrom isBlockedFrom
-returns-3 c = rw (← c .before .before .before .before .before .before .before .before .before .before .before .is-finite .ensures, not-false (c .before .before .before .before .before .before .before .before .before .before .before .is-finite .result) (c .before .before .before .before .before .before .before .before .before .before .if1 .left), ← c .before .before .before .before .before .before .inside .ensures, ← c .before .before .inside2 .ensures, c .if2 .left)
+returns-3 c =
+    let finite-time = c .before .before .before .before .before .before .before .before .before .before in
+    let test = finite-time .before .is-finite in
+    rw (← test .ensures, not-false (test .result) (finite-time .if1 .left), ← c .before .before .before .before .before .before .inside .ensures, ← c .before .before .inside2 .ensures, c .if2 .left)
 
 pub blocking-spec : {M : Type 1} → statement M
 blocking-spec =
