@@ -1,15 +1,17 @@
 -- What the functions of `encoding` rest on. Assumes nothing.
 use mathlib.Core.Path.{_≡_, refl, sym, _∙_, subst}
-use Prim.Native.Nat.{ℕ, _/_, _%_, _<_}
+use Prim.Native.Nat.{ℕ, _+_, _/_, _%_, _<_}
 use mathlib.Core.Bool.{true}
 use mathlib.Core.List.{List, [], _∷_}
 use lib.Dec.{T, lt→ltb}
-use lib.ListN.{getD}
+use lib.ListN.{drop, getD}
+use lib.Seq.{getD-drop}
+use native.Mathlib.Omega.{arith}
 use lib.Pow.{shr-shr}
 use lib.Ieee.{Float, nan, inf, fin, binary64, ofBits, toBits, isNan, ne}
 use lib.Ieee.Bits.{nanBits-is, nanBits-above}
 use lib.Ieee.Compare.{differs-from-itself}
-use Rattle.encoding.specs.Encoding.{hexDigit, hexDigits}
+use Rattle.encoding.specs.Encoding.{bigEndian, hexDigit, hexDigits}
 
 -- ---- a pattern is a NaN's where it is above that of an infinity, the sign left out
 is-nan : (x : Float) → T (isNan x) → x ≡ nan
@@ -24,6 +26,13 @@ nan-pattern w h = is-nan (ofBits binary64 w) (subst T (sym (nanBits-above binary
 -- ---- only a NaN differs from itself
 pub nan-bits : (x : Float) → ne x x ≡ true → 0x7ff8_0000_0000_0000 ≡ toBits binary64 x
 nan-bits x h = rw (differs-from-itself x (subst T (sym h) tt)) (unfold toBits in refl)
+
+-- ---- eight bytes read one by one
+pub eight-bytes : (b : List ℕ) (at : ℕ)
+    → bigEndian (getD b at 0 ∷ getD b (at + 1) 0 ∷ getD b (at + 2) 0 ∷ getD b (at + 3) 0 ∷ getD b (at + 4) 0 ∷ getD b (at + 5) 0 ∷ getD b (at + 6) 0 ∷ getD b (at + 7) 0 ∷ []) ≡ bigEndian (drop at b)
+eight-bytes b at =
+    let e : at + 0 ≡ at = omega arith in
+    rw (getD-drop at b 0 0, getD-drop at b 1 0, getD-drop at b 2 0, getD-drop at b 3 0, getD-drop at b 4 0, getD-drop at b 5 0, getD-drop at b 6 0, getD-drop at b 7 0, e)
 
 -- ---- eight digits, and sixteen
 module _ (w a b c d e f g h : ℕ) where

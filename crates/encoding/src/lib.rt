@@ -2,7 +2,8 @@
 ghost use mathlib.Core.Path.{_≡_};
 ghost use Prim.Native.Nat.{_<_, _≤_, _+_, _*_};
 ghost use lib.Ieee.{binary64, ofBits, toBits};
-ghost use Rattle.encoding.specs.Encoding.{bigEndian, hexDigit, hexDigits};
+ghost use lib.ListN.{length, getD};
+ghost use Rattle.encoding.specs.Encoding.{bigEndian, doubleAt, hexDigit, hexDigits};
 
 // The double of a bit pattern. Every NaN's pattern gives the one NaN.
 pub fn double_of(w: u64) -> f64
@@ -44,6 +45,31 @@ pub fn word(b: [u8; 8]) -> u64
     let w6 = with_byte(w5, b[5]);
     let w7 = with_byte(w6, b[6]);
     with_byte(w7, b[7])
+}
+
+// The byte at an index, as a number.
+pub fn byte_at(b: &[u8], at: usize) -> usize
+    requires { ⌜ at < length (now b) ⌝ }
+    ensures { λ r. ⌜ (r ≡ getD (now (b .entry)) at 0) × (r < 256) ⌝ }
+{
+    b[at] as usize
+}
+
+// The double of the eight bytes from `at` on.
+pub fn double_at(b: &[u8], at: usize) -> f64
+    requires { ⌜ at + 8 ≤ length (now b) ⌝ }
+    ensures { λ r. ⌜ r ≡ doubleAt (now (b .entry)) at ⌝ }
+{
+    double_of(word([
+        b[at],
+        b[at + 1],
+        b[at + 2],
+        b[at + 3],
+        b[at + 4],
+        b[at + 5],
+        b[at + 6],
+        b[at + 7],
+    ]))
 }
 
 // The ASCII of a hexadecimal digit.

@@ -1,15 +1,14 @@
 -- Text that is stored piece by piece is stored whole. Assumes nothing.
 use Prim.Native.Nat.{ℕ, suc, _+_, _≤_, _<_}
-use mathlib.Core.Path.{_≡_, refl, _∙_, subst}
+use mathlib.Core.Path.{_≡_, refl, sym, _∙_, subst}
 use mathlib.Core.List.{List, [], _∷_, _++_, append-assoc, append-nil}
 use native.Mathlib.Omega.{arith}
 use native.Mathlib.Numerals.{add-one}
 use lib.ListN.{length, take, getD, set, length-append}
-use lib.Seq.{sets, length-take-le, take-suc}
+use lib.Seq.{sets, sets-eq, length-take-le, take-at, take-suc}
 use lib.Ieee.{Float}
 use Rattle.profile_lines.specs.Text.{Puts}
-use Rattle.profile.specs.declared.Profile.{Profile}
-use Rattle.profile_lines.specs.Fields.{field, hex, doubleFields, nameFields, profileFields}
+use Rattle.profile_lines.specs.Fields.{field, hex, doubleFields}
 
 sets-append : (xs ys l : List ℕ) (i : ℕ) → sets (sets l i xs) (i + length xs) ys ≡ sets l i (xs ++ ys)
 sets-append [] ys l i = let e : i + 0 ≡ i = omega arith in rw e
@@ -41,6 +40,14 @@ module _ {out after : List ℕ} {at next : ℕ} {text : List ℕ} {m k : ℕ} wh
   pub within : m ≤ k → Puts out after at next text m → Puts out after at next text k
   within h p = record { bytes = p .bytes; behind = p .behind; within = omega arith; same = p .same }
 
+-- text from a slice's start on is its first bytes, as many as are counted
+module _ {out after : List ℕ} {next : ℕ} {text : List ℕ} {m : ℕ} where
+  pub taken : m ≤ length out → Puts out after 0 next text m → take next after ≡ text
+  taken h p = rw (p .bytes, sets-eq text out 0 (omega arith)) (take-at text _ next (omega arith))
+
+  pub counted : m ≤ length out → Puts out after 0 next text m → (next ≤ length after) × (next ≡ length (take next after))
+  counted h p = let n : next ≤ length after = omega arith in (n, sym (length-take-le next after n))
+
 -- ---- doubles one by one
 double-fields-append : (xs ys : List Float) → doubleFields (xs ++ ys) ≡ doubleFields xs ++ doubleFields ys
 unfolding doubleFields
@@ -50,8 +57,3 @@ double-fields-append (x ∷ xs) ys = rw (double-fields-append xs ys, append-asso
 pub one-more-double : (xs : List Float) (i : ℕ) (d : Float) → i < length xs → doubleFields (take i xs) ++ field (hex (getD xs i d)) ≡ doubleFields (take (i + 1) xs)
 unfolding doubleFields
 one-more-double xs i d h = rw (add-one, take-suc xs i d, double-fields-append (take i xs) (getD xs i d ∷ []), append-nil (hex (getD xs i d)))
-
--- a profile's text has the first space
-pub some-text : (q : Profile) → 1 ≤ length (profileFields q)
-unfolding profileFields nameFields
-some-text q = omega arith

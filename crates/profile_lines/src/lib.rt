@@ -60,13 +60,21 @@ fn put_control_signs(out: &mut [u8], at: usize, control_signs: ControlSigns) -> 
     }
 }
 
+// A double's digits, with no space in front.
+pub fn put_hex(out: &mut [u8], at: usize, x: f64) -> usize
+    requires { ⌜ at + 16 ≤ length (now out) ⌝ }
+    ensures { λ r. ⌜ Puts (now (out .entry)) (now (out .exit)) at r (hex x) 16 ⌝ }
+{
+    let digits = hex16(bits_of(x));
+    put(out, at, &digits)
+}
+
 pub fn put_double(out: &mut [u8], at: usize, x: f64) -> usize
     requires { ⌜ at + 17 ≤ length (now out) ⌝ }
     ensures { λ r. ⌜ Puts (now (out .entry)) (now (out .exit)) at r (field (hex x)) 17 ⌝ }
 {
-    let digits = hex16(bits_of(x));
     let start = put(out, at, b" ");
-    put(out, start, &digits)
+    put_hex(out, start, x)
 }
 
 pub fn put_doubles(out: &mut [u8], at: usize, x: &[f64]) -> usize
@@ -135,11 +143,4 @@ pub fn put_profile_fields(out: &mut [u8], at: usize, q: Profile) -> usize
     let phases_end = put_phases(out, names_end, q);
     let rows_end = put_rows(out, phases_end, q);
     put_doubles(out, rows_end, &boundary)
-}
-
-// Writes a profile to standard output, with no space in front of the first field, and says whether all could be written.
-pub fn put_profile(q: Profile) -> bool {
-    let mut text = [0u8; 872];
-    let end = put_profile_fields(&mut text, 0, q);
-    io::write_all(1, &text[1..end])
 }

@@ -1,61 +1,66 @@
 // Reads the coefficients of quartics, four big-endian doubles each, and writes a line for each: how many roots it has that are at least 0, and the roots in reading
 // order by the hexadecimal digits of their bits. The stored input is the oracle's `inputs 4 quartics 6000` and 258 records of tools/threshold_quartics.py after it;
 // the stored output is what the oracle's `quartics` writes.
-use encoding::bits_of;
-use encoding::double_of;
-use encoding::hex16;
-use encoding::word;
+ghost use mathlib.Core.Path.{_≡_};
+ghost use Prim.Native.Nat.{_+_, _≤_};
+ghost use lib.ListN.{length, take};
+ghost use Rattle.io.specs.Counts.{Counts};
+ghost use Rattle.profile_lines.specs.Text.{Puts};
+ghost use Rattle.profile_lines.specs.Fields.{doubleFields};
+ghost use Rattle.roots_test.specs.Lines.{rootsOf, lineOf};
+use decimals::put_decimal;
+use encoding::double_at;
+use profile_lines::put;
+use profile_lines::put_doubles;
 use roots::Roots;
 use roots::solve_quart_monic_coeffs;
 
-// The next coefficient, if the input has eight bytes more.
-struct Coefficient {
-    number: f64,
-    whole: bool,
+// The roots of the record's quartic, in reading order.
+fn roots_of(bytes: &[u8; 32]) -> Roots
+    ensures { λ r. ⌜ r ≡ rootsOf (now (bytes .entry)) ⌝ }
+{
+    solve_quart_monic_coeffs(
+        double_at(bytes, 0),
+        double_at(bytes, 8),
+        double_at(bytes, 16),
+        double_at(bytes, 24),
+    ).ascending()
 }
 
-fn read_coefficient() -> Coefficient {
-    let mut bytes = [0u8; 8];
-    let whole = io::read_full(0, &mut bytes) == 8;
-    Coefficient {
-        number: double_of(word(bytes)),
-        whole,
+// The first `count` of the values.
+fn put_values(out: &mut [u8], at: usize, values: [f64; 4], count: usize) -> usize
+    requires { ⌜ at + 68 ≤ length (now out) ⌝ }
+    ensures { λ r. ⌜ Puts (now (out .entry)) (now (out .exit)) at r (doubleFields (take count values)) 68 ⌝ }
+{
+    if count < 4 {
+        put_doubles(out, at, &values[..count])
+    } else {
+        put_doubles(out, at, &values)
     }
 }
 
-fn write_root(is_there: bool, x: f64) -> bool {
-    if is_there {
-        return io::write_all(1, b" ") & io::write_all(1, &hex16(bits_of(x)));
-    }
-    true
+// The line of a record, at the start of out, and how long it is.
+fn line(bytes: &[u8; 32], out: &mut [u8; 89]) -> usize
+    ensures { λ r. ⌜ Puts (now (out .entry)) (now (out .exit)) 0 r (lineOf (now (bytes .entry))) 89 ⌝ }
+    ensures { λ r. ⌜ Counts r (now (out .exit)) ⌝ }
+{
+    let list = roots_of(bytes);
+    let count = list.count;
+    let values = list.values;
+    let count_end = put_decimal(out, 0, count as u64);
+    let values_end = put_values(out, count_end, values, count);
+    put(out, values_end, b"\n")
 }
 
-fn write_line(list: Roots) -> bool {
-    let n = list.count;
-    let x = list.values;
-    io::print_decimal(1, n as u64)
-        & write_root(0 < n, x[0])
-        & write_root(1 < n, x[1])
-        & write_root(2 < n, x[2])
-        & write_root(3 < n, x[3])
-        & io::write_all(1, b"\n")
-}
-
-// Answers one quartic, and says whether there was one and its line could be written.
+// Answers one record, and says whether there was one and its line could be written.
 fn answer() -> bool {
-    let a = read_coefficient();
-    let b = read_coefficient();
-    let c = read_coefficient();
-    let d = read_coefficient();
-    if a.whole & b.whole & c.whole & d.whole {
-        return write_line(solve_quart_monic_coeffs(
-            a.number,
-            b.number,
-            c.number,
-            d.number,
-        ).ascending());
+    let mut bytes = [0u8; 32];
+    if io::read_full(0, &mut bytes) < 32 {
+        return false;
     }
-    false
+    let mut text = [0u8; 89];
+    let length = line(&bytes, &mut text);
+    io::write_all(1, &text[..length])
 }
 
 // The count only shows that the loop ends: no input is as long.

@@ -1,24 +1,18 @@
 -- `profile_lines::put_double` meets its contract. Assumes nothing.
-use Rattle.profile_lines.specs.Fields.{hex}
-use native.Mathlib.Omega.{arith}
-use Rattle.profile_lines.proofs.PutLaws.{then, within}
+use Rattle.profile_lines.proofs.PutLaws.{then}
 use borrow.Author.Needs.{needs}
 use Rattle.profile_lines.proofs.put_double.Statement.{statement}
 use Rattle.profile_lines.proofs.put_double.Tie as tie
 
 returns : tie.Need-returns
-unfolding hex
-returns c = within (omega arith) (then (c .before .before .before .before .before .before .before .put .ensures) (rw (c .before .before .before .before .before .before .before .before .before .before .hex16 .ensures, c .before .before .before .before .before .before .before .before .before .before .before .bits-of .ensures) at (c .before .before .put2 .ensures)))
+returns c = then (c .before .before .before .before .before .before .put .ensures) (c .before .before .put-hex .ensures)
 
 pub put-double-spec : {M : Type 1} → statement M
 put-double-spec =
     tie.close
     (tie.spec
-    (λ c κs. search needs)
-    (λ c κs. search needs)
     (λ c. search needs)
     (λ c κs. search needs)
-    (λ c. search needs)
     (λ c κs. search needs)
     (λ c. search needs)
     returns)

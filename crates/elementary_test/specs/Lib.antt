@@ -1,0 +1,2 @@
+-- The definitions of `elementary_test`.
+pub mod Lines

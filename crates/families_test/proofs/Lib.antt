@@ -1,0 +1,2 @@
+-- The laws of `families_test`.
+pub mod ListLaws

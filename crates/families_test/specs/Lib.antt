@@ -1,0 +1,3 @@
+-- The definitions of `families_test`.
+pub mod Records
+pub mod Lines

@@ -1,0 +1,34 @@
+-- `roots_test::put_values` meets its contract. Assumes nothing.
+use native.Mathlib.Omega.{arith}
+use mathlib.Core.Path.{sym}
+use lib.Seq.{length-take-le, take-all}
+use Rattle.profile_lines.proofs.PutLaws.{within}
+use borrow.Author.Needs.{needs}
+use Rattle.roots_test.proofs.put_values.Statement.{statement}
+use Rattle.roots_test.proofs.put_values.Tie as tie
+
+slice-aggregate-put-doubles : tie.Need-slice-aggregate-put-doubles
+slice-aggregate-put-doubles c = sym (length-take-le _ _ (omega arith))
+
+put-doubles-requires : tie.Need-put-doubles-requires
+put-doubles-requires c κs = omega (arith, length-take-le (c .before .before .before .before .args .count) (c .before .before .before .before .args .t3) (omega arith))
+
+returns : tie.Need-returns
+returns c = within (omega (arith, length-take-le (c .before .before .before .before .before .before .before .args .count) (c .before .before .before .before .before .before .before .args .t3) (omega arith))) (c .before .before .put-doubles .ensures)
+
+returns-2 : tie.Need-returns-2
+returns-2 c = rw (take-all (c .before .before .before .before .before .before .before .args .count) (c .before .before .before .before .before .before .before .args .t3) (omega arith)) (within (omega arith) (c .before .before .put-doubles2 .ensures))
+
+pub put-values-spec : {M : Type 1} → statement M
+put-values-spec =
+    tie.close
+    (tie.spec
+    (λ c. search needs)
+    slice-aggregate-put-doubles
+    put-doubles-requires
+    (λ c. search needs)
+    (λ c κs. search needs)
+    (λ c. search needs)
+    returns
+    (λ c. search needs)
+    returns-2)

@@ -1,0 +1,2 @@
+-- The definitions of `roots_test`.
+pub mod Lines
