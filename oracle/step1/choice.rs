@@ -2,7 +2,7 @@
 
 use crate::block::{Block, Interval};
 use crate::position_third_step1::PositionThirdOrderStep1;
-use crate::profile::{ControlSigns, Profile, ReachedLimits};
+use crate::profile::{ControlSigns, Direction, Profile, ReachedLimits};
 use crate::roots;
 use answers::{Check, FamilyCall, Limits, List, Move, Plan, Step1, Stretch};
 
@@ -14,10 +14,18 @@ impl Step1 for Choice {
         let mut planner = planner_for(asked);
         let mut block = Block::default();
         if planner.get_profile(&input_profile(asked), &mut block) {
-            Ok(plan_of(&block))
+            Ok(plan_of(&block, planned_stretch))
         } else {
             Err(block.accepted)
         }
+    }
+
+    fn calculate_block(profiles: &[answers::Profile; 6], count: usize) -> Option<Plan> {
+        let mut block = Block::default();
+        let mut list = profiles.each_ref().map(profile_of);
+        let mut counted = count;
+        Block::calculate_block(&mut block, &mut list, &mut counted, None)
+            .then(|| plan_of(&block, stretch_between))
     }
 
     fn is_blocked(plan: &Plan, t: f64) -> bool {
@@ -94,6 +102,7 @@ const LIMITS: [ReachedLimits; 8] = [
     ReachedLimits::None,
 ];
 const CONTROL_SIGNS: [ControlSigns; 2] = [ControlSigns::UDDU, ControlSigns::UDUD];
+const DIRECTIONS: [Direction; 2] = [Direction::UP, Direction::DOWN];
 
 /// A fresh planner for a move.
 pub fn planner_for(asked: &Move) -> PositionThirdOrderStep1 {
@@ -158,28 +167,31 @@ fn run_family(
     false
 }
 
-fn plan_of(block: &Block) -> Plan {
+fn plan_of(block: &Block, stretch: fn(&Interval) -> Stretch) -> Plan {
+    let beside = |interval: &Option<Interval>| match interval {
+        None => (Stretch::Nothing, answers::Profile::EMPTY),
+        Some(interval) => (stretch(interval), numbers_of(&interval.profile)),
+    };
     Plan {
         shortest: block.t_min,
         profile: numbers_of(&block.p_min),
-        stretches: [stretch_of(&block.a), stretch_of(&block.b)],
+        stretches: [beside(&block.a), beside(&block.b)],
         accepted: block.accepted,
     }
 }
 
 /// A plan's durations are at most 3e12, so a right end at infinity is `Interval::new`'s "from a time on".
-fn stretch_of(interval: &Option<Interval>) -> (Stretch, answers::Profile) {
-    match interval {
-        None => (Stretch::Nothing, answers::Profile::EMPTY),
-        Some(interval) => {
-            let stretch = if interval.right == f64::INFINITY {
-                Stretch::From(interval.left)
-            } else {
-                Stretch::Between(interval.left, interval.right)
-            };
-            (stretch, numbers_of(&interval.profile))
-        }
+fn planned_stretch(interval: &Interval) -> Stretch {
+    if interval.right == f64::INFINITY {
+        Stretch::From(interval.left)
+    } else {
+        stretch_between(interval)
     }
+}
+
+/// Selection alone makes no other stretch, also where a total is infinite.
+fn stretch_between(interval: &Interval) -> Stretch {
+    Stretch::Between(interval.left, interval.right)
 }
 
 /// A stretch as a block holds it, without the profile beside it.
@@ -206,4 +218,25 @@ fn numbers_of(profile: &Profile) -> answers::Profile {
         brake: profile.brake.duration,
         accel: profile.accel.duration,
     }
+}
+
+fn profile_of(numbers: &answers::Profile) -> Profile {
+    let mut profile = Profile {
+        t: numbers.t,
+        t_sum: numbers.t_sum,
+        j: numbers.j,
+        a: numbers.a,
+        v: numbers.v,
+        p: numbers.p,
+        pf: numbers.pf,
+        vf: numbers.vf,
+        af: numbers.af,
+        limits: LIMITS[numbers.limits],
+        direction: DIRECTIONS[numbers.direction],
+        control_signs: CONTROL_SIGNS[numbers.control_signs],
+        ..Default::default()
+    };
+    profile.brake.duration = numbers.brake;
+    profile.accel.duration = numbers.accel;
+    profile
 }

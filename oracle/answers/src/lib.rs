@@ -3,7 +3,7 @@
 
 mod wrapper;
 
-pub use wrapper::{plan, refused_before_planning};
+pub use wrapper::{is_blocked, plan, refused_before_planning, select};
 
 /// A move's 13 numbers, in the order of document 01's record.
 #[derive(Clone, Copy, Debug, PartialEq)]
@@ -171,6 +171,16 @@ pub struct Plan {
     pub accepted: usize,
 }
 
+impl Plan {
+    /// What a refusal leaves: the empty profile, no stretch.
+    pub const EMPTY: Plan = Plan {
+        shortest: 0.0,
+        profile: Profile::EMPTY,
+        stretches: [(Stretch::Nothing, Profile::EMPTY); 2],
+        accepted: 0,
+    };
+}
+
 /// A call of `check`: limits and control signs stand as places in their lists of names.
 #[derive(Clone, Copy, Debug, PartialEq)]
 pub struct Check {
@@ -209,6 +219,25 @@ pub struct FamilyCall {
     pub counted: usize,
 }
 
+/// A call of the selection, and of `is_blocked` for what it selects and for a plan given.
+#[derive(Clone, Copy, Debug, PartialEq)]
+pub struct BlockCall {
+    pub count: u8,
+    pub profiles: [Profile; 6],
+    pub given: Plan,
+    pub times: [f64; 4],
+}
+
+/// A move and a plan in buffers of doubles: how many of the move's doubles are handed over, how many the plan's
+/// buffer has, and a time put to what stands in it afterwards.
+#[derive(Clone, Copy, Debug, PartialEq)]
+pub struct BufferCall {
+    pub move_length: u8,
+    pub plan_length: u8,
+    pub numbers: [f64; 16],
+    pub t: f64,
+}
+
 /// Up to N things in order.
 #[derive(Clone, Copy, Debug, PartialEq)]
 pub struct List<T, const N: usize> {
@@ -238,6 +267,9 @@ impl<T: Copy, const N: usize> List<T, N> {
 pub trait Step1 {
     /// `get_profile` on a fresh planner and block; if it says no, how many profiles were accepted.
     fn get_profile(asked: &Move) -> Result<Plan, usize>;
+
+    /// `calculate_block` on a fresh block and six profiles, of which so many count; nothing if it says no.
+    fn calculate_block(profiles: &[Profile; 6], count: usize) -> Option<Plan>;
 
     /// `is_blocked` of a plan's block.
     fn is_blocked(plan: &Plan, t: f64) -> bool;

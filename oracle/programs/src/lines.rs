@@ -66,7 +66,8 @@ impl Line {
             ])
     }
 
-    fn stretch(&mut self, (stretch, profile): &(Stretch, Profile)) -> &mut Self {
+    /// A stretch's kind and both ends.
+    pub fn stretch(&mut self, stretch: &Stretch) -> &mut Self {
         let kind = match stretch {
             Stretch::Nothing => "nothing",
             Stretch::Between(..) => "between",
@@ -74,7 +75,10 @@ impl Line {
         };
         self.word(kind)
             .doubles(&stretch.ends().unwrap_or([0.0, 0.0]))
-            .profile(profile)
+    }
+
+    pub fn refusal(&mut self, number: u8) -> &mut Self {
+        self.word("refused").count(number as usize)
     }
 
     /// Prints the line and empties it.
@@ -108,7 +112,17 @@ pub fn short_plan(line: &mut Line, plan: &Plan) {
 /// `plan_full`'s line for a plan, after the record's number.
 pub fn full_plan(line: &mut Line, plan: &Plan) {
     line.word("ok").double(plan.shortest).profile(&plan.profile);
-    for stretch in &plan.stretches {
-        line.stretch(stretch);
+    for (stretch, profile) in &plan.stretches {
+        line.stretch(stretch).profile(profile);
+    }
+}
+
+/// A plan of the selection called alone; its profiles are told by their marks.
+pub fn selected_plan(line: &mut Line, plan: &Plan) {
+    line.word("ok")
+        .double(plan.shortest)
+        .double(plan.profile.pf);
+    for (stretch, profile) in &plan.stretches {
+        line.stretch(stretch).double(profile.pf);
     }
 }

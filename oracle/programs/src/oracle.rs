@@ -5,6 +5,10 @@ use answers::{Check, FamilyCall, List, Move, Plan, Profile, Step1};
 pub struct Oracle {
     /// Document 01's answer to a move: the plan, or the refusal's number.
     pub plan: fn(&Move) -> Result<Plan, u8>,
+    /// Selection called alone: the plan, or the refusal's number.
+    pub select: fn(&[Profile; 6], usize) -> Result<Plan, u8>,
+    /// Whether a plan blocks a time, or the refusal's number.
+    pub is_blocked: fn(&Plan, f64) -> Result<bool, u8>,
     pub quartic: fn([f64; 4]) -> List<f64, 4>,
     pub resolvent: fn([f64; 3]) -> (usize, [f64; 3]),
     pub check: fn(&Check) -> Option<Profile>,
@@ -26,6 +30,8 @@ impl Oracle {
     pub fn of<S: Step1>() -> Oracle {
         Oracle {
             plan: answers::plan::<S>,
+            select: answers::select::<S>,
+            is_blocked: answers::is_blocked::<S>,
             quartic: S::quartic,
             resolvent: S::resolvent,
             check: S::check,

@@ -23,7 +23,7 @@ pub fn answer_moves(
         match read.and_then(|asked| (oracle.plan)(&asked)) {
             Ok(plan) => show(&mut line, &plan),
             Err(refusal) => {
-                line.word("refused").count(refusal as usize);
+                line.refusal(refusal);
             }
         }
         line.end(output)?;

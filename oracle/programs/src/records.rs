@@ -1,7 +1,10 @@
 //! The records that the programs read and the generators write. All doubles are big-endian.
 
 use crate::command::Stop;
-use answers::{Check, FamilyCall, Move, CONTROL_SIGNS, FAMILIES, LIMITS};
+use answers::{
+    BlockCall, BufferCall, Check, FamilyCall, Move, Plan, Profile, Stretch, CONTROL_SIGNS,
+    FAMILIES, LIMITS,
+};
 use std::io::{self, Read, Write};
 
 /// Document 01's record: this length, this version, then 13 doubles.
@@ -13,6 +16,17 @@ const CHECK_SIZE: usize = 18 * 8 + 3;
 
 /// A family call's record: the move, then family, direction, `return_after_found` and the count so far.
 const FAMILY_SIZE: usize = 13 * 8 + 4;
+
+/// A selection's record: the count; six times total, brake, accel and direction; a block given; four times.
+const BLOCK_SIZE: usize = 1 + 6 * SELECTED_SIZE + GIVEN_SIZE + 4 * 8;
+const SELECTED_SIZE: usize = 3 * 8 + 1;
+
+/// A block given: its shortest duration, then kind, left and right end of each stretch.
+const GIVEN_SIZE: usize = 8 + 2 * STRETCH_SIZE;
+const STRETCH_SIZE: usize = 1 + 2 * 8;
+
+/// A buffers' record: how many doubles of the move and of the plan's buffer, 16 doubles, and a time.
+const BUFFER_SIZE: usize = 2 + 16 * 8 + 8;
 
 /// The next move: nothing at the end of the input, and `Err(8)` where there is no whole, right record.
 pub fn read_move(input: &mut dyn Read) -> io::Result<Option<Result<Move, u8>>> {
@@ -101,6 +115,103 @@ pub fn write_family_call(output: &mut dyn Write, call: &FamilyCall) -> io::Resul
     write_doubles(output, &call.asked.numbers())?;
     let flags = [call.opposite as u8, call.return_after_found as u8];
     output.write_all(&[call.family as u8, flags[0], flags[1], call.counted as u8])
+}
+
+pub fn read_block_call(input: &mut dyn Read, _: usize) -> Result<Option<BlockCall>, Stop> {
+    let mut bytes = [0; BLOCK_SIZE];
+    if fill(input, &mut bytes)? < BLOCK_SIZE {
+        return Ok(None);
+    }
+    let (count, rest) = bytes.split_at(1);
+    let (selected, rest) = rest.split_at(6 * SELECTED_SIZE);
+    let (given, times) = rest.split_at(GIVEN_SIZE);
+    Ok(Some(BlockCall {
+        count: count[0],
+        profiles: std::array::from_fn(|k| selected_profile(&selected[k * SELECTED_SIZE..], k)),
+        given: Plan {
+            shortest: doubles::<1>(given)[0],
+            stretches: [0, 1].map(|k| (stretch(&given[8 + k * STRETCH_SIZE..]), Profile::EMPTY)),
+            ..Plan::EMPTY
+        },
+        times: doubles(times),
+    }))
+}
+
+/// Profile k of a selection: empty but for its durations and direction, and marked by its target.
+fn selected_profile(bytes: &[u8], k: usize) -> Profile {
+    let [total, brake, accel] = doubles(bytes);
+    let mut profile = Profile {
+        direction: usize::from(bytes[3 * 8] != 0),
+        pf: (k + 1) as f64,
+        brake,
+        accel,
+        ..Profile::EMPTY
+    };
+    profile.t_sum[6] = total;
+    profile
+}
+
+fn stretch(bytes: &[u8]) -> Stretch {
+    let [left, right] = doubles(&bytes[1..]);
+    match bytes[0] {
+        0 => Stretch::Nothing,
+        1 => Stretch::Between(left, right),
+        _ => Stretch::From(left),
+    }
+}
+
+pub fn write_block_call(output: &mut dyn Write, call: &BlockCall) -> io::Result<()> {
+    output.write_all(&[call.count])?;
+    for profile in &call.profiles {
+        write_doubles(output, &[profile.t_sum[6], profile.brake, profile.accel])?;
+        output.write_all(&[profile.direction as u8])?;
+    }
+    write_doubles(output, &[call.given.shortest])?;
+    for (stretch, _) in &call.given.stretches {
+        let (kind, ends) = match *stretch {
+            Stretch::Nothing => (0, [0.0, 0.0]),
+            Stretch::Between(left, right) => (1, [left, right]),
+            Stretch::From(left) => (2, [left, 0.0]),
+        };
+        output.write_all(&[kind])?;
+        write_doubles(output, &ends)?;
+    }
+    write_doubles(output, &call.times)
+}
+
+pub fn read_buffer_call(input: &mut dyn Read, _: usize) -> Result<Option<BufferCall>, Stop> {
+    let mut bytes = [0; BUFFER_SIZE];
+    if fill(input, &mut bytes)? < BUFFER_SIZE {
+        return Ok(None);
+    }
+    Ok(Some(BufferCall {
+        move_length: bytes[0],
+        plan_length: bytes[1],
+        numbers: doubles(&bytes[2..]),
+        t: doubles::<1>(&bytes[2 + 16 * 8..])[0],
+    }))
+}
+
+pub fn write_buffer_call(output: &mut dyn Write, call: &BufferCall) -> io::Result<()> {
+    output.write_all(&[call.move_length, call.plan_length])?;
+    write_doubles(output, &call.numbers)?;
+    write_doubles(output, &[call.t])
+}
+
+/// What is left of an input: a byte that says how much, then so many bytes.
+pub fn read_rest_of_input(input: &mut dyn Read, _: usize) -> Result<Option<Vec<u8>>, Stop> {
+    let mut length = [0];
+    if fill(input, &mut length)? == 0 {
+        return Ok(None);
+    }
+    let mut bytes = vec![0; length[0] as usize];
+    let whole = fill(input, &mut bytes)? == bytes.len();
+    Ok(whole.then_some(bytes))
+}
+
+pub fn write_rest_of_input(output: &mut dyn Write, bytes: &[u8]) -> io::Result<()> {
+    output.write_all(&[bytes.len() as u8])?;
+    output.write_all(bytes)
 }
 
 /// A byte that must be below a bound.

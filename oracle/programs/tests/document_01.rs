@@ -1,6 +1,6 @@
 //! Document 01's examples, through the programs, byte for byte.
 
-use answers::{plan, Move, Step1};
+use answers::{is_blocked, plan, select, Move, Plan, Profile, Step1, Stretch};
 use programs::records::write_move;
 use std::io::Write;
 use std::process::{Command, Stdio};
@@ -224,4 +224,107 @@ fn bad_usage_is_said() {
         let message = String::from_utf8(output.stderr).unwrap();
         assert!(message.contains("usage: plan_moves"), "{message}");
     }
+}
+
+/// Six profiles of which the first have these totals; each is marked by its place, counted from 1.
+fn profiles_of(totals: &[f64]) -> [Profile; 6] {
+    let mut profiles = [Profile::EMPTY; 6];
+    for (k, profile) in profiles.iter_mut().enumerate() {
+        profile.t_sum[6] = totals.get(k).copied().unwrap_or(0.0);
+        profile.pf = (k + 1) as f64;
+    }
+    profiles
+}
+
+#[test]
+fn two_totals_near_each_other() {
+    let near = select::<Choice>(&profiles_of(&[1.0 + 4.0 * f64::EPSILON, 1.0]), 2).unwrap();
+    assert_eq!(
+        (near.profile.pf, near.stretches[0].0),
+        (1.0, Stretch::Nothing)
+    );
+    let far = 1.0 + 8.0 * f64::EPSILON;
+    let plan = select::<Choice>(&profiles_of(&[1.0, far]), 2).unwrap();
+    assert_eq!(
+        (plan.profile.pf, plan.stretches[0].0),
+        (1.0, Stretch::Between(1.0, far))
+    );
+}
+
+/// An infinite total makes a stretch between two times, not one from a time on.
+#[test]
+fn refusals_4_to_7_of_what_is_called_alone() {
+    let numbers = [0, 4, 6, 255]
+        .map(|count| select::<Choice>(&profiles_of(&[1.0, 2.0, 3.0, 4.0]), count).err());
+    assert_eq!(numbers, [Some(4), Some(5), Some(7), Some(7)]);
+    let infinite = select::<Choice>(&profiles_of(&[1.0, f64::INFINITY]), 2).unwrap();
+    assert_eq!(
+        infinite.stretches[0].0,
+        Stretch::Between(1.0, f64::INFINITY)
+    );
+    assert_eq!(infinite.stretches[0].1.pf, 2.0);
+    for t in [f64::NAN, f64::INFINITY, f64::NEG_INFINITY] {
+        assert_eq!(is_blocked::<Choice>(&Plan::EMPTY, t), Err(6));
+    }
+    assert_eq!(is_blocked::<Choice>(&Plan::EMPTY, 0.0), Ok(false));
+    assert_eq!(is_blocked::<Choice>(&Plan::EMPTY, -5e-324), Ok(true));
+}
+
+const BUFFERS: &str = env!("CARGO_BIN_EXE_buffers");
+const REPLIES: &str = env!("CARGO_BIN_EXE_replies");
+
+/// A buffers' record: the second move, so many doubles of it, so many for the plan, and a time.
+fn buffer_record(move_length: u8, plan_length: u8, t: f64) -> Vec<u8> {
+    let mut bytes = vec![move_length, plan_length];
+    let numbers = four_moves()[1].into_iter().chain([7.0; 3]).chain([t]);
+    bytes.extend(numbers.flat_map(f64::to_be_bytes));
+    bytes
+}
+
+#[test]
+fn buffers_of_right_and_wrong_lengths() {
+    let calls = [
+        (13, 168, 6.0),
+        (13, 168, 5.0),
+        (12, 166, 6.0),
+        (13, 165, 6.0),
+        (13, 166, f64::NAN),
+        (12, 166, -2.0),
+    ];
+    let input: Vec<u8> = calls
+        .into_iter()
+        .flat_map(|(m, n, t)| buffer_record(m, n, t))
+        .collect();
+    let lines = output(BUFFERS, &[], &[&input, &input[..137]].concat());
+    let lines: Vec<&str> = lines.lines().collect();
+    assert!(lines[0].starts_with("0 4018000000000000 0000000000000000 3FF0000000000000 "));
+    assert!(lines[0].ends_with(" BFF0000000000000 BFF0000000000000 0"));
+    assert_eq!(lines[0].split(' ').count(), 1 + 168 + 1);
+    assert!(lines[1].ends_with(" 1") && lines[4].ends_with(" 6"));
+    assert_eq!(lines[2..4], ["9 unchanged 0", "9 unchanged 9"]);
+    assert_eq!(lines[5..], ["9 unchanged 1"]);
+}
+
+#[test]
+fn replies_to_what_is_left() {
+    let two = records(&four_moves()[1..2]);
+    let mut wrong = two.clone();
+    wrong[2] = 2;
+    let rests = [
+        &two[..],
+        &two[..106],
+        &[],
+        &wrong,
+        &[&two[..], &wrong].concat(),
+    ];
+    let input: Vec<u8> = rests
+        .iter()
+        .flat_map(|rest| [&[rest.len() as u8], *rest].concat())
+        .collect();
+    let good = "goes on 1 ok 4018000000000000 UP Vel 0\n";
+    let expected = format!("{good}ends 1 refused 8\nends\nends 1 refused 8\n{good}");
+    assert_eq!(
+        output(REPLIES, &[], &[&input, &[107, 0, 105][..]].concat()),
+        expected
+    );
 }

@@ -1,10 +1,13 @@
 //! The generators: the same from the same seed, and each kind is what its name says.
 
-use answers::{plan, Check, Move, Plan, Stretch, FAMILIES};
-use programs::generators::{checks, families, moves, quartics};
+use answers::{plan, BufferCall, Check, Move, Plan, Stretch, FAMILIES};
+use programs::generators::{blocks, buffers, checks, families, moves, quartics, replies};
 use programs::oracle::Oracle;
 use programs::random::Random;
-use programs::records::{write_check, write_doubles, write_family_call, write_move};
+use programs::records::{
+    write_block_call, write_buffer_call, write_check, write_doubles, write_family_call, write_move,
+    write_rest_of_input,
+};
 use std::collections::BTreeMap;
 use step1_exact::Choice;
 
@@ -70,6 +73,18 @@ fn a_seed_always_means_the_same_inputs() {
         write_family_call(&mut bytes, &families::call(&mut random)).unwrap();
     }
     assert_eq!(digest(&bytes), 0xF4B11A1967F918D3);
+}
+
+#[test]
+fn a_seed_always_means_the_same_blocks_buffers_and_rests_of_inputs() {
+    let mut random = Random::new(16);
+    let mut bytes = Vec::new();
+    for _ in 0..1000 {
+        write_block_call(&mut bytes, &blocks::call(&mut random)).unwrap();
+        write_buffer_call(&mut bytes, &buffers::call(&mut random)).unwrap();
+        write_rest_of_input(&mut bytes, &replies::rest_of_input(&mut random)).unwrap();
+    }
+    assert_eq!(digest(&bytes), 0x23B6A4DAA414DCD1);
 }
 
 #[test]
@@ -273,5 +288,47 @@ fn every_try_succeeds_somewhere_in_both_directions() {
                 FAMILIES[family]
             );
         }
+    }
+}
+
+#[test]
+fn blocks_of_every_verdict_and_blocking() {
+    let oracle = Oracle::of::<Choice>();
+    let mut random = Random::new(17);
+    let mut refused = [0; 8];
+    let mut removed = 0;
+    let mut blockings: BTreeMap<Result<bool, u8>, usize> = BTreeMap::new();
+    for _ in 0..4000 {
+        let call = blocks::call(&mut random);
+        let selected = (oracle.select)(&call.profiles, call.count as usize);
+        match &selected {
+            Ok(plan) => removed += usize::from(plan.accepted == 4),
+            Err(number) => refused[*number as usize] += 1,
+        }
+        for plan in [selected.unwrap_or(Plan::EMPTY), call.given] {
+            for t in call.times {
+                *blockings.entry((oracle.is_blocked)(&plan, t)).or_default() += 1;
+            }
+        }
+    }
+    assert!(refused[4] > 20 && refused[5] > 100 && refused[7] > 100);
+    assert!(removed > 500, "{removed}");
+    for blocking in [Ok(true), Ok(false), Err(6)] {
+        assert!(blockings[&blocking] > 1000, "{blockings:?}");
+    }
+}
+
+#[test]
+fn buffers_are_mostly_planned_in() {
+    let oracle = Oracle::of::<Choice>();
+    let mut random = Random::new(18);
+    let calls: Vec<_> = (0..2000).map(|_| buffers::call(&mut random)).collect();
+    let status = |call: &BufferCall| programs::buffers::plan(&oracle, call).0;
+    assert!(share(&calls, |call| status(call) == 0) > 0.6);
+    for wanted in [2, 4, 9] {
+        assert!(
+            share(&calls, |call| status(call) == wanted) > 0.01,
+            "{wanted}"
+        );
     }
 }

@@ -1,24 +1,14 @@
-#!/usr/bin/env python3
-"""Writes the stored input of the programs `plan_moves` and `plan_full`, with the oracle's output.
+"""The stored moves of the programs `plan_moves` and `plan_full`: some 2,000 and some 900 of the same.
 
-    cd oracle && cargo build --release --offline && python3 tools/make_samples.py FOLDER
-
-FOLDER receives
-    plan_moves.stdin  plan_moves.stdout     some 2,000 moves; the input ends inside a record
-    plan_full.stdin   plan_full.stdout      some 900 of the same moves, ending alike
-    four.*                                  document 01's four moves, through both programs
-    eight/*                                 the forms of refusal 8, each through both programs
-
-The moves are: chosen ones; from DRAWN moves of every kind the first of each class (verdict, count of accepted profiles, kinds of the stretches, direction and
+They are: chosen ones; from DRAWN moves of every kind the first of each class (verdict, count of accepted profiles, kinds of the stretches, direction and
 limits, phases of the shortest profile that take time); and the first moves of every kind. The script stops if a verdict, count or name that must occur doesn't.
 """
 import math
-import os
 import struct
-import subprocess
 import sys
 
-PROGRAMS = os.path.join(os.path.dirname(os.path.abspath(__file__)), "..", "target", "release")
+from programs import run
+
 KINDS = {"ordinary": 201, "rest": 202, "zero": 203, "wild": 204, "scale": 205, "edge": 206, "blocked": 207, "neighbours": 208}  # with their seeds
 DRAWN = 40_000
 OF_A_CLASS = {"wild": 4}  # how many, where not 1: the plans of wild moves are of few classes
@@ -29,10 +19,6 @@ NAN, INFINITY = math.nan, math.inf
 TINY = 5e-324
 LONG = 1e12
 LONGER = math.nextafter(1e12, INFINITY)
-
-
-def run(program, *arguments, given=b""):
-    return subprocess.run([os.path.join(PROGRAMS, program), *arguments], input=given, stdout=subprocess.PIPE, check=True).stdout
 
 
 def record(numbers):
@@ -118,61 +104,3 @@ def demand_coverage(program, records):
     missing += [word for word in (b" nothing ", b" between ", b" from ") if word not in kinds]
     if missing:
         sys.exit(f"{program}: {missing} do not occur")
-
-
-def store(folder, name, given, programs=("plan_moves", "plan_full")):
-    """Writes an input and the oracle's output of some programs."""
-    write(os.path.join(folder, f"{name}.stdin"), given)
-    for program in programs:
-        ending = "stdout" if programs == (name,) else f"{program}.stdout"
-        write(os.path.join(folder, f"{name}.{ending}"), run(program, given=given))
-
-
-def write(path, content):
-    with open(path, "wb") as file:
-        file.write(content)
-
-
-def store_eight(folder):
-    """The forms of refusal 8, each after a right record and before another one where the input goes on."""
-    one, two, three = (record(numbers) for numbers in FOUR[:3])
-    nan_inside = two[:3] + b"\xff" * 8 + two[11:]
-    for name, second in {
-        "cut_in_length": two[:1],
-        "cut_after_length": two[:2],
-        "cut_after_version": two[:3],
-        "cut_in_doubles": two[:50],
-        "cut_before_last_byte": two[:-1],
-        "cut_with_nan": nan_inside[:-1],
-        "length_104": b"\x00\x68" + two[2:] + three,
-        "length_106": b"\x00\x6a" + two[2:] + three,
-        "length_0": b"\x00\x00" + two[2:] + three,
-        "length_26880": b"\x69\x00" + two[2:] + three,
-        "length_65535": b"\xff\xff" + two[2:] + three,
-        "length_wrong_and_nothing_more": b"\x00\x00",
-        "version_0": two[:2] + b"\x00" + two[3:] + three,
-        "version_2": two[:2] + b"\x02" + two[3:] + three,
-        "version_255": two[:2] + b"\xff" + two[3:] + three,
-        "version_wrong_with_nan": nan_inside[:2] + b"\x02" + nan_inside[3:] + three,
-        "version_wrong_and_cut": two[:2] + b"\x02" + two[3:50],
-    }.items():
-        store(folder, name, one + second)
-    store(folder, "first_record", two[:2] + b"\x02" + two[3:] + one)
-    store(folder, "empty", b"")
-
-
-def main():
-    if len(sys.argv) != 2:
-        sys.exit("usage: make_samples.py FOLDER")
-    folder = sys.argv[1]
-    os.makedirs(os.path.join(folder, "eight"), exist_ok=True)
-    store(folder, "four", b"".join(record(numbers) for numbers in FOUR))
-    for program, sample in selection().items():
-        records = b"".join(sample)
-        demand_coverage(program, records)
-        store(folder, program, records + sample[1][:50], programs=(program,))
-        print(f"{program}: {len(sample)} moves, then a record cut short")
-    store_eight(os.path.join(folder, "eight"))
-
-
-main()
