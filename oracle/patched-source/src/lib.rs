@@ -31,7 +31,8 @@ pub fn prepare() {
     );
 }
 
-fn oracle_folder() -> PathBuf {
+/// The folder that this crate lies in.
+pub fn oracle_folder() -> PathBuf {
     let here = Path::new(env!("CARGO_MANIFEST_DIR"));
     here.parent()
         .expect("this crate lies in the oracle's folder")
