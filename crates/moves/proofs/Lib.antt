@@ -1,3 +1,3 @@
 -- The laws of `moves`.
 pub mod RecordLaws
-pub mod DecimalLaws
+pub mod CountLaws

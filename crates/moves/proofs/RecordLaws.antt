@@ -1,16 +1,14 @@
 -- The bytes of a record as the code reads them, and which number a record has. Assumes nothing.
-use Prim.Native.Nat.{ℕ, _+_, _≤_}
+use Prim.Native.Nat.{ℕ, _≤_}
 use mathlib.Core.Path.{_≡_, refl}
 use mathlib.Core.Bool.{Bool, true, false, cond, _||_, true≢false, false≢true}
-use mathlib.Core.List.{List, [], _∷_}
+use mathlib.Core.List.{List}
 use mathlib.Core.Logic.{inl, inr, _↔_}
 use mathlib.Core.Option.{some}
 use native.Mathlib.Omega.{arith}
 use borrow.Author.Tests.{ltb-false}
 use lib.Dec.{eqb, ltb}
-use lib.ListN.{length, drop, getD}
-use lib.Seq.{getD-drop}
-use Rattle.encoding.specs.Encoding.{bigEndian}
+use lib.ListN.{length}
 use Rattle.block.specs.Blocks.{refused}
 use Rattle.planner.specs.Plan.{finiteMove, wrongSign, wrongDuration, planOf}
 use Rattle.planner.specs.declared.Move.{Move}
@@ -18,13 +16,6 @@ use Rattle.planner.proofs.RefusalLaws.{refused-1, refused-2, refused-3, admitte
 use Rattle.moves.specs.Records.{moveOf, isMalformed, recordOf, answerTo, numberOf, Reads}
 use Rattle.moves.specs.declared.Record.{Record}
 use Rattle.moves.specs.declared.Record.the-variants.{End, Malformed, Whole}
-
--- eight bytes read one by one
-pub eight-bytes : (b : List ℕ) (at : ℕ)
-    → bigEndian (getD b at 0 ∷ getD b (at + 1) 0 ∷ getD b (at + 2) 0 ∷ getD b (at + 3) 0 ∷ getD b (at + 4) 0 ∷ getD b (at + 5) 0 ∷ getD b (at + 6) 0 ∷ getD b (at + 7) 0 ∷ []) ≡ bigEndian (drop at b)
-eight-bytes b at =
-    let e : at + 0 ≡ at = omega arith in
-    rw (getD-drop at b 0 0, getD-drop at b 1 0, getD-drop at b 2 0, getD-drop at b 3 0, getD-drop at b 4 0, getD-drop at b 5 0, getD-drop at b 6 0, getD-drop at b 7 0, e)
 
 first-false : (x y z : Bool) → x || y || z ≡ false → x ≡ false
 first-false false y z h = refl

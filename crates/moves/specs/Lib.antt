@@ -1,5 +1,4 @@
 -- The definitions of `moves`: what a record's bytes mean, the lines of text, and which bytes answer a record.
 pub mod Records
-pub mod Numbers
 pub mod Lines
 pub mod Replies

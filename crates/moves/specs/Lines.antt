@@ -7,11 +7,11 @@ use Rattle.profile_lines.specs.Text.{ascii}
 use Rattle.profile_lines.specs.Fields.{directionName, limitsName, field, hex, doubleFields, profileFields}
 use Rattle.block.specs.Blocks.{countOf, bothEnds, endsOf}
 use Rattle.block.specs.declared.Stretch.{Stretch}
-use Rattle.block.specs.declared.Stretch.the-variants.{Nothing, Between, From}
 use Rattle.block.specs.declared.Interval.{Interval}
 use Rattle.block.specs.declared.Block.{Block}
 use Rattle.block.specs.declared.Answer.{Answer}
-use Rattle.moves.specs.Numbers.{decimal}
+use Rattle.decimals.specs.Decimal.{decimal}
+use Rattle.stretch_lines.specs.Kinds.{kindOf}
 
 -- ---- a line of `plan_moves`
 
@@ -39,11 +39,6 @@ unfoldable pub lineOf : ℕ → Answer → List ℕ
 lineOf n x = decimal n ++ answerFields x ++ ascii "\n"
 
 -- ---- a line of `plan_full`: ok, shortest duration, PROFILE, and for each of the two stretches its kind, left end, right end, PROFILE
-abbrev pub kindOf : Stretch → List ℕ
-kindOf Nothing = ascii "nothing"
-kindOf (Between left right) = ascii "between"
-kindOf (From left) = ascii "from"
-
 unfoldable pub intervalFields : Interval → List ℕ
 intervalFields i = field (kindOf (i .stretch)) ++ doubleFields (bothEnds (i .stretch)) ++ profileFields (i .profile)
 

@@ -6,9 +6,9 @@ use mathlib.Core.List.{List}
 use mathlib.Core.Logic.{_↔_}
 use mathlib.Core.Option.{Option, none, some}
 use lib.Dec.{eqb, ltb}
-use lib.ListN.{length, drop, getD}
-use lib.Ieee.{Float, binary64, ofBits}
-use Rattle.encoding.specs.Encoding.{bigEndian}
+use lib.ListN.{length, getD}
+use lib.Ieee.{Float}
+use Rattle.encoding.specs.Encoding.{doubleAt}
 use Rattle.profile.specs.declared.Start.{Start}
 use Rattle.profile.specs.declared.Target.{Target}
 use Rattle.profile.specs.declared.Limits.{Limits}
@@ -21,7 +21,7 @@ use Rattle.moves.specs.declared.Record.the-variants.{End, Malformed, Who
 
 -- double number i of the record; every NaN's pattern is the one NaN
 unfoldable pub double : List ℕ → ℕ → Float
-double b i = ofBits binary64 (bigEndian (drop (3 + 8 * i) b))
+double b i = doubleAt b (3 + 8 * i)
 
 -- ---- p0 v0 a0 pf vf af v_max v_min a_max a_min j_max brake accel
 unfoldable pub startOf : List ℕ → Start

@@ -1,39 +1,23 @@
-// The fields of a line that aren't a profile's: numbers in decimal, stretches, refusals. A space stands in front of each.
+// The fields of a line that aren't a profile's: stretches, plans, refusals. A space stands in front of each.
 
 ghost use Prim.Native.Nat.{_+_, _≤_};
 ghost use lib.ListN.{length};
 ghost use Rattle.profile_lines.specs.Text.{Puts};
 ghost use Rattle.profile_lines.specs.Fields.{field, doubleFields};
-ghost use Rattle.block.specs.Blocks.{countOf, bothEnds, endsOf};
-ghost use Rattle.moves.specs.Numbers.{decimal};
-ghost use Rattle.moves.specs.Lines.{stretchFields, planFields, refusalFields, kindOf, intervalFields, fullFields};
+ghost use Rattle.block.specs.Blocks.{countOf, endsOf};
+ghost use Rattle.decimals.specs.Decimal.{decimal};
+ghost use Rattle.moves.specs.Lines.{stretchFields, planFields, refusalFields, intervalFields, fullFields};
 use block::Block;
 use block::Interval;
 use block::Stretch;
+use decimals::put_number;
 use profile_lines::put;
 use profile_lines::put_direction;
 use profile_lines::put_double;
-use profile_lines::put_doubles;
 use profile_lines::put_limits;
 use profile_lines::put_profile_fields;
-
-// A number in decimal, with no space in front.
-pub fn put_decimal(out: &mut [u8], at: usize, n: u64) -> usize
-    requires { ⌜ at + 20 ≤ length (now out) ⌝ }
-    ensures { λ r. ⌜ Puts (now (out .entry)) (now (out .exit)) at r (decimal n) 20 ⌝ }
-{
-    let mut digits = [0u8; 20];
-    let count = io::decimal(n, &mut digits);
-    put(out, at, &digits[..count])
-}
-
-fn put_number(out: &mut [u8], at: usize, n: u64) -> usize
-    requires { ⌜ at + 21 ≤ length (now out) ⌝ }
-    ensures { λ r. ⌜ Puts (now (out .entry)) (now (out .exit)) at r (field (decimal n)) 21 ⌝ }
-{
-    let start = put(out, at, b" ");
-    put_decimal(out, start, n)
-}
+use stretch_lines::put_both_ends;
+use stretch_lines::put_kind;
 
 // How many stretches there are: 0, 1 or 2.
 fn put_count(out: &mut [u8], at: usize, a: Stretch, b: Stretch) -> usize
@@ -41,16 +25,6 @@ fn put_count(out: &mut [u8], at: usize, a: Stretch, b: Stretch) -> usize
     ensures { λ r. ⌜ Puts (now (out .entry)) (now (out .exit)) at r (field (decimal (countOf a + countOf b))) 2 ⌝ }
 {
     put(out, at, &[b' ', b'0' + (a.count() + b.count())])
-}
-
-// Two ends also of nothing.
-fn put_both_ends(out: &mut [u8], at: usize, s: Stretch) -> usize
-    requires { ⌜ at + 34 ≤ length (now out) ⌝ }
-    ensures { λ r. ⌜ Puts (now (out .entry)) (now (out .exit)) at r (doubleFields (bothEnds s)) 34 ⌝ }
-{
-    let left = s.left_end();
-    let right = s.right_end();
-    put_doubles(out, at, &[left, right])
 }
 
 fn put_ends(out: &mut [u8], at: usize, s: Stretch) -> usize
@@ -98,17 +72,6 @@ pub fn put_refusal(out: &mut [u8], at: usize, number: u64) -> usize
 {
     let refused_end = put(out, at, b" refused");
     put_number(out, refused_end, number)
-}
-
-fn put_kind(out: &mut [u8], at: usize, s: Stretch) -> usize
-    requires { ⌜ at + 8 ≤ length (now out) ⌝ }
-    ensures { λ r. ⌜ Puts (now (out .entry)) (now (out .exit)) at r (field (kindOf s)) 8 ⌝ }
-{
-    match s {
-        Stretch::Nothing => put(out, at, b" nothing"),
-        Stretch::Between(_, _) => put(out, at, b" between"),
-        Stretch::From(_) => put(out, at, b" from"),
-    }
 }
 
 // A stretch and the profile beside it.

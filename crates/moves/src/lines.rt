@@ -4,11 +4,11 @@ ghost use Prim.Native.Nat.{_+_, _≤_};
 ghost use lib.ListN.{length};
 ghost use Rattle.profile_lines.specs.Text.{Puts};
 ghost use Rattle.moves.specs.Lines.{lineOf, fullLineOf, answerFields, fullAnswerFields};
-use crate::fields::put_decimal;
 use crate::fields::put_full_plan;
 use crate::fields::put_plan;
 use crate::fields::put_refusal;
 use block::Answer;
+use decimals::put_decimal;
 use profile_lines::put;
 
 fn put_answer(out: &mut [u8], at: usize, x: Answer) -> usize

@@ -5,8 +5,8 @@ ghost use Prim.Native.Nat.{_+_, _*_, _<_, _≤_};
 ghost use lib.ListN.{length};
 ghost use Rattle.moves.specs.Records.{double, startOf, targetOf, limitsOf, moveOf, isMalformed, Reads};
 use crate::Record;
-use encoding::double_of;
-use encoding::word;
+use encoding::byte_at;
+use encoding::double_at;
 use planner::Move;
 use profile::Limits;
 use profile::Start;
@@ -17,17 +17,7 @@ fn double(b: &[u8], i: usize) -> f64
     requires { ⌜ (i < 13) × (107 ≤ length (now b)) ⌝ }
     ensures { λ r. ⌜ r ≡ double (now (b .entry)) i ⌝ }
 {
-    let at = 3 + 8 * i;
-    double_of(word([
-        b[at],
-        b[at + 1],
-        b[at + 2],
-        b[at + 3],
-        b[at + 4],
-        b[at + 5],
-        b[at + 6],
-        b[at + 7],
-    ]))
+    double_at(b, 3 + 8 * i)
 }
 
 fn start_of(b: &[u8]) -> Start
@@ -81,19 +71,13 @@ fn move_of(b: &[u8]) -> Move
     }
 }
 
-fn widened(b: u8) -> u64
-    ensures { λ r. ⌜ (r ≡ b) × (r < 256) ⌝ }
-{
-    b as u64
-}
-
 fn is_malformed(b: &[u8]) -> bool
     ensures { λ r. ⌜ r ≡ isMalformed (now (b .entry)) ⌝ }
 {
     if b.len() < 107 {
         return true;
     }
-    (widened(b[0]) * 256 + widened(b[1]) != 105) | (b[2] != 1)
+    (byte_at(b, 0) * 256 + byte_at(b, 1) != 105) | (byte_at(b, 2) != 1)
 }
 
 // The record that the input's next bytes begin with.

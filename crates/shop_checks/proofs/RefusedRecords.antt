@@ -3,7 +3,7 @@ use mathlib.Core.Path.{refl}
 use lib.Ieee.{ofBits, toBits, neg}
 use Rattle.block.specs.Blocks.{refused}
 use Rattle.planner.specs.Plan.{finiteStart, finiteMove, planOf}
-use Rattle.moves.specs.Numbers.{decimal}
+use Rattle.decimals.specs.Decimal.{decimal}
 use Rattle.moves.specs.Records.{double, startOf, targetOf, limitsOf, moveOf, isMalformed, recordOf}
 use Rattle.moves.specs.Lines.{refusalFields, answerFields, lineOf}
 use Rattle.shop_checks.specs.Records.{recordBytes}

@@ -40,7 +40,7 @@ use Rattle.get_profile.specs.Families.{unlessFound, firstOf}
 use Rattle.get_profile.specs.GetProfile.{towardsTarget, resting, twoStep, firstSearch, tryFamilies, afterPassing, singleStepAnswer, getProfileBy, getProfile, getProfileAnswer}
 use Rattle.planner.specs.Plan.{finiteStart, finiteTarget, finiteLimits, finiteMove, wrongSign, wrongDuration, planOf}
 use Rattle.planner.specs.declared.Move.{Move}
-use Rattle.moves.specs.Numbers.{decimal}
+use Rattle.decimals.specs.Decimal.{decimal}
 use Rattle.moves.specs.Records.{double, startOf, targetOf, limitsOf, moveOf, isMalformed, recordOf}
 use Rattle.moves.specs.Lines.{stretchFields, planFields, refusalFields, answerFields, lineOf}
 use Rattle.moves.specs.Replies.{replyOf}

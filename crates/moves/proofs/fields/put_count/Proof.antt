@@ -1,5 +1,5 @@
 -- `moves::fields::put_count` meets its contract. Assumes nothing.
-use Rattle.moves.proofs.DecimalLaws.{count-field}
+use Rattle.moves.proofs.CountLaws.{count-field}
 use borrow.Author.Needs.{needs}
 use Rattle.moves.proofs.fields.put_count.Statement.{statement}
 use Rattle.moves.proofs.fields.put_count.Tie as tie

@@ -1,7 +1,7 @@
--- `moves::fields::put_both_ends` meets its contract. Assumes nothing.
+-- `stretch_lines::put_both_ends` meets its contract. Assumes nothing.
 use borrow.Author.Needs.{needs}
-use Rattle.moves.proofs.fields.put_both_ends.Statement.{statement}
-use Rattle.moves.proofs.fields.put_both_ends.Tie as tie
+use Rattle.stretch_lines.proofs.put_both_ends.Statement.{statement}
+use Rattle.stretch_lines.proofs.put_both_ends.Tie as tie
 
 returns : tie.Need-returns
 returns c = rw (c .before .before .before .before .before .before .left-end .ensures, c .before .before .before .before .before .right-end .ensures) at (c .before .before .put-doubles .ensures)

@@ -1,9 +1,9 @@
--- `moves::fields::put_kind` meets its contract. Assumes nothing.
+-- `stretch_lines::put_kind` meets its contract. Assumes nothing.
 use native.Mathlib.Omega.{arith}
 use Rattle.profile_lines.proofs.PutLaws.{within}
 use borrow.Author.Needs.{needs}
-use Rattle.moves.proofs.fields.put_kind.Statement.{statement}
-use Rattle.moves.proofs.fields.put_kind.Tie as tie
+use Rattle.stretch_lines.proofs.put_kind.Statement.{statement}
+use Rattle.stretch_lines.proofs.put_kind.Tie as tie
 
 returns : tie.Need-returns
 returns c = rw (c .before .before .before .before .before .enum-told .given .1) (within (omega arith) (c .before .before .put .ensures))

@@ -1,0 +1,2 @@
+-- The definitions of `stretch_lines`.
+pub mod Kinds
