@@ -1,0 +1,26 @@
+-- `block_test::lines::line` meets its contract. Assumes nothing.
+use native.Mathlib.Omega.{arith}
+use Rattle.profile_lines.proofs.PutLaws.{then, counted}
+use Rattle.block_test.specs.Lines.{lineOf}
+use borrow.Author.Needs.{needs}
+use Rattle.block_test.proofs.lines.line.Statement.{statement}
+use Rattle.block_test.proofs.lines.line.Tie as tie
+
+returns : tie.Need-returns
+unfolding lineOf
+returns c =
+    let p = rw (c .before .before .before .before .before .before .before .before .before .before .before .selected-of .ensures, c .before .before .before .before .given-of .ensures) at (then (then (then (c .before .before .before .before .before .before .before .before .put-answer .ensures) (c .before .before .before .before .before .before .put-blockings .ensures)) (c .before .before .before .put-blockings2 .ensures)) (c .put .ensures)) in
+    (p, counted (omega arith) p)
+
+pub line-spec : {M : Type 1} → statement M
+line-spec =
+    tie.close
+    (tie.spec
+    (λ c κs. search needs)
+    (λ c κs. search needs)
+    (λ c κs. search needs)
+    (λ c κs. search needs)
+    (λ c κs. search needs)
+    (λ c. search needs)
+    (λ c κs. search needs)
+    returns)
