@@ -1,0 +1,2 @@
+-- The laws of `buffer_test`.
+pub mod BufferLaws

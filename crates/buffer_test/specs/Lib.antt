@@ -1,0 +1,3 @@
+-- The definitions of `buffer_test`.
+pub mod Records
+pub mod Lines

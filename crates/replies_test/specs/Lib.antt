@@ -1,0 +1,2 @@
+-- The definitions of `replies_test`.
+pub mod Lines
