@@ -1,8 +1,10 @@
 //! What the mutated Rust can be asked, and its answer as the test programs show it.
 
 use crate::records::read_move;
+use crate::special;
 use crate::wrapper;
-use answers::{BlockCall, Check, FamilyCall, Plan, Profile, Step1, Stretch};
+use answers::{BlockCall, Check, FamilyCall, Move, Plan, Profile, Step1, Stretch};
+use programs::random::Random;
 use step1_mutated::Choice;
 
 /// One input of a test program.
@@ -35,6 +37,98 @@ impl Asked {
             },
             Asked::Quartic(coefficients) => show_doubles(Choice::quartic(*coefficients).as_slice(), shown),
             Asked::Block(call) => show_selection(call, shown),
+        }
+    }
+}
+
+/// Where a record's doubles begin, and how many it has.
+const DOUBLES: usize = 3;
+const MOVE_NUMBERS: usize = 13;
+
+impl Asked {
+    /// Every double of the input.
+    pub fn numbers(&self) -> Vec<f64> {
+        match self {
+            Asked::Record(bytes, _) => {
+                let doubles = bytes.get(DOUBLES..DOUBLES + 8 * MOVE_NUMBERS).unwrap_or(&[]);
+                doubles.chunks_exact(8).map(|eight| f64::from_be_bytes(eight.try_into().expect("eight bytes"))).collect()
+            }
+            Asked::Family(call) => call.asked.numbers().to_vec(),
+            Asked::Check(call) => [&call.boundary[..], &call.t, &[call.jf], &call.bounds].concat(),
+            Asked::Quartic(coefficients) => coefficients.to_vec(),
+            Asked::Block(call) => {
+                let mut numbers: Vec<f64> = call.profiles.iter().flat_map(|profile| [profile.t_sum[6], profile.brake, profile.accel]).collect();
+                numbers.push(call.given.shortest);
+                numbers.extend(call.times);
+                numbers
+            }
+        }
+    }
+
+    /// The same input with other doubles.
+    pub fn with_numbers(&self, numbers: &[f64]) -> Asked {
+        let mut changed = self.clone();
+        match &mut changed {
+            Asked::Record(bytes, _) => {
+                for (place, number) in numbers.iter().enumerate() {
+                    bytes[DOUBLES + 8 * place..DOUBLES + 8 * place + 8].copy_from_slice(&number.to_be_bytes());
+                }
+            }
+            Asked::Family(call) => call.asked = Move::from_numbers(std::array::from_fn(|place| numbers[place])),
+            Asked::Check(call) => {
+                call.boundary.copy_from_slice(&numbers[..6]);
+                call.t.copy_from_slice(&numbers[6..13]);
+                call.jf = numbers[13];
+                call.bounds.copy_from_slice(&numbers[14..]);
+            }
+            Asked::Quartic(coefficients) => coefficients.copy_from_slice(numbers),
+            Asked::Block(call) => {
+                for (profile, numbers) in call.profiles.iter_mut().zip(numbers.chunks(3)) {
+                    (profile.t_sum[6], profile.brake, profile.accel) = (numbers[0], numbers[1], numbers[2]);
+                }
+                call.given.shortest = numbers[18];
+                call.times.copy_from_slice(&numbers[19..]);
+            }
+        }
+        changed
+    }
+
+    /// A move the other way round; anything else as it is.
+    pub fn turned(&self) -> Asked {
+        let numbers = self.numbers();
+        if numbers.len() != MOVE_NUMBERS {
+            return self.clone();
+        }
+        let asked = special::turned(&Move::from_numbers(std::array::from_fn(|place| numbers[place])));
+        let mut turned = self.with_numbers(&asked.numbers());
+        if let Asked::Family(call) = &mut turned {
+            call.opposite ^= true;
+        }
+        turned
+    }
+
+    /// Now and then another name, family, direction or count.
+    pub fn change_choices(&mut self, random: &mut Random) {
+        if !random.one_in(8) {
+            return;
+        }
+        match self {
+            Asked::Family(call) => match random.below(4) {
+                0 => call.opposite ^= true,
+                1 => call.return_after_found ^= true,
+                2 => call.family = random.below(8) as usize,
+                _ => call.counted = random.below(6) as usize,
+            },
+            Asked::Check(call) => match random.below(3) {
+                0 => call.limits = random.below(8) as usize,
+                1 => call.control_signs ^= 1,
+                _ => call.set_limits ^= true,
+            },
+            Asked::Block(call) => match random.below(2) {
+                0 => call.count = random.below(7) as u8,
+                _ => call.profiles[random.below(6) as usize].direction ^= 1,
+            },
+            _ => (),
         }
     }
 }

@@ -1,6 +1,9 @@
 //! Says which mutants of the Rust no stored answer tells apart, and searches inputs that do.
 
 mod asked;
+mod hunt;
+mod pins;
+mod special;
 mod stored;
 mod table;
 mod trial;
@@ -13,36 +16,106 @@ use programs::command;
 
 include!(concat!(env!("OUT_DIR"), "/modules.rs"));
 
+use asked::Asked;
+use hunt::Hunt;
+use mutation::Mutant;
+use std::collections::HashSet;
 use std::env;
+use std::io;
 use std::path::Path;
 use std::process::ExitCode;
-use std::time::Instant;
+use std::time::Duration;
 use trial::Trial;
 
-const USAGE: &str = "usage: mutants FOLDER_OF_CRATES [--living]";
+const USAGE: &str = "usage: mutants table CRATES [PINS]
+       mutants hunt CRATES PINS SEED SECONDS
+       mutants reduce CRATES PINS";
 
 fn main() -> ExitCode {
     let arguments: Vec<String> = env::args().skip(1).collect();
-    let (folder, list) = match &arguments[..] {
-        [folder] => (folder, false),
-        [folder, option] if option == "--living" => (folder, true),
-        _ => {
-            eprintln!("{USAGE}");
-            return ExitCode::from(2);
-        }
+    let words: Vec<&str> = arguments.iter().map(String::as_str).collect();
+    let mutants = mutation::mutants();
+    let done = match &words[..] {
+        ["table", crates] => Ok(print_table(&mutants, crates, None)),
+        ["table", crates, pins] => Ok(print_table(&mutants, crates, Some(pins))),
+        ["hunt", crates, pins, seed, seconds] => match (seed.parse(), seconds.parse()) {
+            (Ok(seed), Ok(seconds)) => hunt(&mutants, crates, pins, seed, Duration::from_secs(seconds)),
+            _ => return usage(),
+        },
+        ["reduce", crates, pins] => reduce(&mutants, crates, pins),
+        _ => return usage(),
     };
-    let mutants = mutation::of_the_oracle().mutants;
+    match done {
+        Ok(()) => ExitCode::SUCCESS,
+        Err(error) => {
+            eprintln!("{error}");
+            ExitCode::FAILURE
+        }
+    }
+}
+
+fn usage() -> ExitCode {
+    eprintln!("{USAGE}");
+    ExitCode::from(2)
+}
+
+/// Prints what the stored inputs tell apart, with pins that aren't stored yet, and which mutants live.
+fn print_table(mutants: &[Mutant], crates: &str, pins: Option<&str>) {
     let mut trial = Trial::new(mutants.len());
-    let start = Instant::now();
-    for (name, asked) in stored::inputs(Path::new(folder)) {
+    let mut inputs = stored::inputs(Path::new(crates));
+    inputs.extend(pins.map(|pins| ("pins", pins::read(Path::new(pins)))));
+    for (name, asked) in inputs {
         let before = trial.living().len();
         asked.iter().for_each(|asked| trial.put(asked));
         println!("{name}: {} inputs, {} mutants told apart", asked.len(), before - trial.living().len());
     }
-    eprintln!("{:.1?}", start.elapsed());
-    table::print(&mutants, &trial);
-    if list {
-        table::print_living(&mutants, &trial);
+    table::print(mutants, &trial);
+    table::print_living(mutants, &trial);
+}
+
+/// Stored inputs that are no pins.
+fn unpinned(crates: &str, pins: &[Asked]) -> Vec<Asked> {
+    let all = stored::inputs(Path::new(crates)).into_iter().flat_map(|(_, asked)| asked);
+    let pinned: HashSet<_> = pins.iter().map(pins::file_and_bytes).collect();
+    all.filter(|asked| !pinned.contains(&pins::file_and_bytes(asked))).collect()
+}
+
+/// Adds to the pins what a search of so long finds.
+fn hunt(mutants: &[Mutant], crates: &str, pins: &str, seed: u64, limit: Duration) -> io::Result<()> {
+    let mut known = pins::read(Path::new(pins));
+    let mut inputs = unpinned(crates, &known);
+    inputs.extend(known.iter().cloned());
+    let mut trial = Trial::new(mutants.len());
+    inputs.iter().for_each(|asked| trial.put(asked));
+    println!("{} live", trial.living().len());
+    trial.patience = Some(500);
+    let mut hunt = Hunt::new(seed, mutants, &mut trial, inputs);
+    hunt.run(limit, mutants);
+    println!("{} tries", hunt.tries);
+    known.extend(hunt.found);
+    println!("{} live", trial.living().len());
+    let pinned: Vec<(Asked, String)> = known.into_iter().map(|pin| (pin, String::new())).collect();
+    pins::write(Path::new(pins), &pinned)
+}
+
+/// Keeps few pins that tell apart what all of them do, and writes behind each which mutants those are.
+fn reduce(mutants: &[Mutant], crates: &str, pins: &str) -> io::Result<()> {
+    let known = pins::read(Path::new(pins));
+    let mut trial = Trial::new(mutants.len());
+    unpinned(crates, &known).iter().for_each(|asked| trial.put(asked));
+    let mut open: Vec<usize> = trial.living().to_vec();
+    let mut told: Vec<Vec<usize>> = known.iter().map(|pin| trial.all_told_apart_by(pin)).collect();
+    let mut kept = Vec::new();
+    while let Some(best) = (0..known.len()).max_by_key(|&place| (told[place].len(), usize::MAX - place)) {
+        if told[best].is_empty() {
+            break;
+        }
+        let apart = told[best].clone();
+        open.retain(|mutant| !apart.contains(mutant));
+        told.iter_mut().for_each(|told| told.retain(|mutant| !apart.contains(mutant)));
+        let names: Vec<String> = apart.iter().map(|&number| table::name(&mutants[number])).collect();
+        kept.push((known[best].clone(), names.join("; ")));
     }
-    ExitCode::SUCCESS
+    println!("{} of {} pins kept, {} mutants live", kept.len(), known.len(), open.len());
+    pins::write(Path::new(pins), &kept)
 }

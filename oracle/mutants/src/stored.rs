@@ -30,6 +30,18 @@ pub fn inputs(crates: &Path) -> Vec<(&'static str, Vec<Asked>)> {
     found
 }
 
+/// The one record that these bytes are, of the kind that a file of pins holds.
+pub fn record_of(name: &str, bytes: &[u8]) -> Asked {
+    let mut input = bytes;
+    let read: Result<Option<Asked>, programs::command::Stop> = match name {
+        "quartics" => records::read_doubles(&mut input, 1).map(|read| read.map(Asked::Quartic)),
+        "checks" => records::read_check(&mut input, 1).map(|read| read.map(Asked::Check)),
+        "families" => records::read_family_call(&mut input, 1).map(|read| read.map(Asked::Family)),
+        _ => records::read_block_call(&mut input, 1).map(|read| read.map(Asked::Block)),
+    };
+    read.ok().flatten().unwrap_or_else(|| panic!("a pin of {name} isn't a whole record"))
+}
+
 /// Every record, by a reader of one.
 fn all(
     mut bytes: &[u8],

@@ -22,13 +22,18 @@ pub fn print(mutants: &[Mutant], trial: &Trial) {
 
 pub fn print_living(mutants: &[Mutant], trial: &Trial) {
     for &number in trial.living() {
-        let Mutant {
-            file,
-            function,
-            line,
-            kind,
-            change,
-        } = &mutants[number];
-        println!("{number} {file}:{line} {function} [{kind}] {change}");
+        println!("{number} {}", name(&mutants[number]));
     }
+}
+
+/// Where a mutant is and what it changes.
+pub fn name(mutant: &Mutant) -> String {
+    let Mutant {
+        file,
+        function,
+        line,
+        kind,
+        change,
+    } = mutant;
+    format!("{file}:{line} {function} [{kind}] {change}")
 }

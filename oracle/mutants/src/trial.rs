@@ -1,11 +1,16 @@
 //! Puts inputs to all mutants that still live.
 
 use crate::asked::{Asked, Shown};
-use std::panic::{catch_unwind, set_hook, AssertUnwindSafe};
+use std::panic::{catch_unwind, set_hook, take_hook, AssertUnwindSafe};
 
 pub struct Trial {
     /// The mutants that no input told apart so far, ascending.
     living: Vec<usize>,
+    /// How often each ran in vain.
+    runs: Vec<u64>,
+    /// After so many runs in vain a mutant runs ever more rarely; nothing if it always runs.
+    pub patience: Option<u64>,
+    turn: u64,
     answer: Shown,
     other: Shown,
 }
@@ -14,9 +19,17 @@ impl Trial {
     pub fn new(count: usize) -> Self {
         assert!(count <= mutant_switch::MOST, "{count} mutants are too many for the switch");
         // A mutant that stops the program is told apart; it needs no message.
-        set_hook(Box::new(|_| ()));
+        let usual = take_hook();
+        set_hook(Box::new(move |panic| {
+            if !mutant_switch::is_mutated() {
+                usual(panic);
+            }
+        }));
         Trial {
             living: (0..count).collect(),
+            runs: vec![0; count],
+            patience: None,
+            turn: 0,
             answer: Shown::new(),
             other: Shown::new(),
         }
@@ -35,10 +48,28 @@ impl Trial {
         mutant_switch::select(mutant_switch::TRACED);
         asked.answer(&mut self.answer);
         let touched: Vec<usize> = self.living.iter().copied().filter(|&mutant| mutant_switch::take_touched(mutant)).collect();
-        let apart: Vec<usize> = touched.into_iter().filter(|&mutant| self.tells_apart(asked, mutant)).collect();
+        self.turn += 1;
+        let apart: Vec<usize> = touched.into_iter().filter(|&mutant| self.is_its_turn(mutant) && self.tells_apart(asked, mutant)).collect();
         mutant_switch::select(mutant_switch::ORIGINAL);
         self.living.retain(|mutant| !apart.contains(mutant));
         apart
+    }
+
+    /// The living mutants that an input tells apart; they live on.
+    pub fn all_told_apart_by(&mut self, asked: &Asked) -> Vec<usize> {
+        let living = self.living.clone();
+        let apart = self.told_apart_by(asked);
+        self.living = living;
+        apart
+    }
+
+    fn is_its_turn(&mut self, mutant: usize) -> bool {
+        let rarely = self.patience.map_or(1, |patience| 1 + self.runs[mutant] / patience);
+        // Another turn for each mutant, lest they all run on the same input.
+        let runs = (self.turn + mutant as u64).wrapping_mul(0x9E37_79B9_7F4A_7C15) >> 20 & 0xFFFF;
+        let runs = runs % rarely == 0;
+        self.runs[mutant] += u64::from(runs);
+        runs
     }
 
     /// Whether a mutant answers otherwise than the answer that was kept.

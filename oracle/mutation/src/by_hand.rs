@@ -63,7 +63,7 @@ const LAST_CALL: &str = "-self._j_max,\n                false,\n            );";
 const IF_SHORTER: &str = "if left_duration < right_duration {";
 const TAKEN: &str = ".enumerate()";
 
-pub const SLIPS: [Slip; 83] = [
+pub const SLIPS: [Slip; 94] = [
     // ---- roots.rs
     slip(ROOTS, "insert", "the list drops equal roots, as the Rust's own does", "if !self.data.is_full() {", "if !self.data.contains(&value) && !self.data.is_full() {"),
     slip(ROOTS, "insert", "-0 is no root", "if value >= 0.0 {", "if value >= 0.0 && value.is_sign_positive() {"),
@@ -152,4 +152,15 @@ pub const SLIPS: [Slip; 83] = [
     slip(WRAPPER, "refused_before_planning", "infinities pass", "!number.is_finite()", "number.is_nan()"),
     slip(WRAPPER, "refused_before_planning", "durations not finite are refused 3", "asked.numbers().iter().any(", "asked.numbers()[..11].iter().any("),
     slip(RECORDS, "read_move", "the version is ignored", "whole && body[0] == MOVE_VERSION", "whole"),
+    slip(RECORDS, "read_move", "the length is ignored", "u16::from_be_bytes(length) == MOVE_LENGTH", "true"),
+    slip(RECORDS, "read_move", "the length's lower byte only", "u16::from_be_bytes(length) == MOVE_LENGTH", "length[1] == MOVE_LENGTH as u8"),
+    slip(RECORDS, "read_move", "the length in the other byte order", "from_be_bytes(length)", "from_le_bytes(length)"),
+    slip(RECORDS, "read_move", "a length up to the right one", "u16::from_be_bytes(length) == MOVE_LENGTH", "u16::from_be_bytes(length) <= MOVE_LENGTH"),
+    slip(RECORDS, "read_move", "one byte is the end of the input", "0 => return Ok(None),", "0 | 1 => return Ok(None),"),
+    slip(RECORDS, "read_move", "a record cut in its doubles is filled up with zeros", "fill(input, &mut body)? == body.len()", "fill(input, &mut body)? > 0"),
+    slip(RECORDS, "read_move", "a wrong version ends the input silently", "let asked = whole", "if whole && body[0] != MOVE_VERSION { return Ok(None); } let asked = whole"),
+    slip(STEP1, "new", "p0 - pf in place of pf - p0", "pf - p0", "p0 - pf"),
+    slip(STEP1, "time_all_none_acc0_acc1", "has_solution shifted by the other polynomial's coefficient", "polynom_acc0_min[3] += (polynom_acc0[2]", "polynom_acc0_min[3] += (polynom_acc0[1]"),
+    slip(STEP1, "time_all_none_acc0_acc1", "ACC0 is always solved", "if polynom_acc0_has_solution {", "if true {"),
+    slip(STEP1, "time_all_none_acc0_acc1", "ACC1 is always solved", "if polynom_acc1_has_solution {", "if true {"),
 ];

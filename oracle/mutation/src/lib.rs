@@ -80,10 +80,18 @@ pub struct Mutated {
 /// The whole work of a build script: writes the mutated files over those in the build folder.
 pub fn write_into_build_folder() {
     let mutated = of_the_oracle();
+    for folder in ["answers/src", "programs/src", "patches", "../docs/src"] {
+        println!("cargo:rerun-if-changed={}", patched_source::oracle_folder().join(folder).display());
+    }
     let out = PathBuf::from(env::var("OUT_DIR").expect("cargo sets OUT_DIR"));
     for (name, text) in &mutated.texts {
         fs::write(out.join(name), text).unwrap_or_else(|error| panic!("{name}: {error}"));
     }
+}
+
+/// Every mutant by its number.
+pub fn mutants() -> Vec<Mutant> {
+    of_the_oracle().mutants
 }
 
 /// The patched four files, the refusals and the reading of records, mutated.
@@ -94,7 +102,6 @@ pub fn of_the_oracle() -> Mutated {
     let patched = patched_source::patched(&sources, &oracle.join("patches"));
     let mut texts = patched.unwrap_or_else(|message| panic!("{message}"));
     for path in &own {
-        println!("cargo:rerun-if-changed={}", path.display());
         texts.insert(name_of(path), fs::read_to_string(path).unwrap_or_else(|error| panic!("{error}")));
     }
     of_texts(texts)

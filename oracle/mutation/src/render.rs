@@ -192,6 +192,11 @@ impl<'a> Renderer<'a> {
             "&&" => ("and", "connective", &["&& as ||", "only the left", "only the right"]),
             _ => ("or", "connective", &["|| as &&", "only the left", "only the right"]),
         };
+        // Whole numbers are never NaN.
+        let is_whole = |side: &Expr| matches!(side.node, Node::Number) && number(self.source(side.span)).is_none();
+        let is_whole = is_whole(right) || self.source(right.span) == "MOST_PROFILES";
+        let becomes = if becomes.len() == 3 && kind == "comparison" && is_whole { &becomes[..2] } else { becomes };
+        let name = if becomes.len() == 2 { format!("{name}_whole") } else { name.to_string() };
         let first = self.place_of(expr, kind, becomes);
         if operator == "&&" && self.source(right.span).contains("check_with_timing") {
             return format!("{SWITCH}and_then({first}, {a}, || {b})");
@@ -201,8 +206,12 @@ impl<'a> Renderer<'a> {
 
     /// The right side of an operator: a zero that something is compared with has no sign.
     fn operand(&mut self, operator: &str, right: &Expr) -> String {
-        if matches!(operator, "<" | "<=" | ">" | ">=") && number(self.source(right.span)) == Some(0.0) {
+        if matches!(operator, "<" | "<=" | ">" | ">=" | "==") && number(self.source(right.span)) == Some(0.0) {
             return self.constant(right, &["1.0".into(), "f64::EPSILON".into(), "-f64::EPSILON".into()]);
+        }
+        // Of a threshold the factor is changed already.
+        if operator == "*" && self.source(right.span) == "f64::EPSILON" {
+            return self.source(right.span).to_string();
         }
         self.expr(right)
     }
@@ -338,10 +347,20 @@ impl<'a> Renderer<'a> {
 
     /// A function of one double, or the double itself.
     fn of_one(&mut self, expr: &Expr, name: &str, operand: &Expr) -> String {
-        let operand = self.expr(operand);
+        let operand = match (name, &without_paren(operand).node) {
+            ("abs", Node::Binary(operator, left, right)) if operator == "-" => self.distance(operand, left, right),
+            _ => self.expr(operand),
+        };
         let left_out = format!("{name} left out");
         let first = self.place_of(expr, "function", &[&left_out]);
         format!("{{ let x_: f64 = {operand}; {SWITCH}choose({first}, x_.{name}(), [x_]) }}")
+    }
+
+    /// A difference whose sign doesn't count.
+    fn distance(&mut self, expr: &Expr, left: &Expr, right: &Expr) -> String {
+        let (a, b) = (self.expr(left), self.expr(right));
+        let first = self.place_of(expr, "operator", &["- as +"]);
+        format!("{SWITCH}distance({first}, {a}, {b})")
     }
 
     /// Arguments, where upper and lower limits can change places and a jerk its sign.
@@ -399,6 +418,13 @@ fn exchanged_calls(block: &Block) -> Vec<(usize, usize)> {
     let is_family = |statement: &Statement| matches!(statement, Statement::Expr(Expr { node: Node::Method(_, name, _), .. }, true) if name.starts_with("time_"));
     let calls: Vec<usize> = (0..block.statements.len()).filter(|&number| is_family(&block.statements[number])).collect();
     calls.windows(2).map(|pair| (pair[0], pair[1])).collect()
+}
+
+fn without_paren(expr: &Expr) -> &Expr {
+    match &expr.node {
+        Node::Paren(inner) => without_paren(inner),
+        _ => expr,
+    }
 }
 
 fn number(text: &str) -> Option<f64> {

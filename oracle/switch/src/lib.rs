@@ -24,6 +24,11 @@ pub fn select(mutant: usize) {
     SELECTED.store(mutant, Relaxed);
 }
 
+/// Whether a mutant runs.
+pub fn is_mutated() -> bool {
+    SELECTED.load(Relaxed) < MOST
+}
+
 /// Whether the last traced run touched a mutant; forgets it.
 pub fn take_touched(mutant: usize) -> bool {
     let touched = TOUCHED[mutant].load(Relaxed);
@@ -154,6 +159,12 @@ pub fn sub<T: Arithmetic>(first: usize, a: T, b: T) -> T {
     choose(first, a.minus(b), [a.plus(b), b.minus(a)])
 }
 
+/// a - b where only its size counts.
+#[inline]
+pub fn distance(first: usize, a: f64, b: f64) -> f64 {
+    choose(first, a - b, [a + b])
+}
+
 #[inline]
 pub fn mul<T: Arithmetic>(first: usize, a: T, b: T) -> T {
     choose(first, a.times(b), [a.over(b), a.plus(b)])
@@ -184,25 +195,15 @@ pub fn max(first: usize, a: f64, b: f64) -> f64 {
     choose(first, a.max(b), [a.min(b), a, b])
 }
 
-/// Things with an order: of doubles, traced runs note how near they came.
-pub trait Ordered: Copy + PartialOrd {
-    fn note(self, _first: usize, _other: Self) {}
-}
-
-impl Ordered for usize {}
-
-impl Ordered for u8 {}
-
-impl Ordered for f64 {
-    fn note(self, first: usize, other: f64) {
-        if SELECTED.load(Relaxed) != TRACED || self.is_nan() || other.is_nan() {
-            return;
-        }
-        let apart = in_order(self).saturating_sub(in_order(other));
-        let nearest = NEAREST[first].load(Relaxed) as i64;
-        if apart.unsigned_abs() < nearest.unsigned_abs() {
-            NEAREST[first].store(apart as u64, Relaxed);
-        }
+/// Notes in a traced run how near two doubles came that are compared.
+fn note(first: usize, a: f64, b: f64) {
+    if SELECTED.load(Relaxed) != TRACED || a.is_nan() || b.is_nan() {
+        return;
+    }
+    let apart = in_order(a).saturating_sub(in_order(b));
+    let nearest = NEAREST[first].load(Relaxed) as i64;
+    if apart.unsigned_abs() < nearest.unsigned_abs() {
+        NEAREST[first].store(apart as u64, Relaxed);
     }
 }
 
@@ -219,31 +220,41 @@ fn in_order(number: f64) -> i64 {
 // The third other value of each comparison is the negated opposite: it differs for NaN only.
 
 #[inline]
-pub fn lt<T: Ordered>(first: usize, a: T, b: T) -> bool {
-    a.note(first, b);
+pub fn lt(first: usize, a: f64, b: f64) -> bool {
+    note(first, a, b);
     #[allow(clippy::neg_cmp_op_on_partial_ord)]
     choose(first, a < b, [a <= b, a > b, !(a >= b)])
 }
 
 #[inline]
-pub fn le<T: Ordered>(first: usize, a: T, b: T) -> bool {
-    a.note(first, b);
+pub fn le(first: usize, a: f64, b: f64) -> bool {
+    note(first, a, b);
     #[allow(clippy::neg_cmp_op_on_partial_ord)]
     choose(first, a <= b, [a < b, a >= b, !(a > b)])
 }
 
 #[inline]
-pub fn gt<T: Ordered>(first: usize, a: T, b: T) -> bool {
-    a.note(first, b);
+pub fn gt(first: usize, a: f64, b: f64) -> bool {
+    note(first, a, b);
     #[allow(clippy::neg_cmp_op_on_partial_ord)]
     choose(first, a > b, [a >= b, a < b, !(a <= b)])
 }
 
 #[inline]
-pub fn ge<T: Ordered>(first: usize, a: T, b: T) -> bool {
-    a.note(first, b);
+pub fn ge(first: usize, a: f64, b: f64) -> bool {
+    note(first, a, b);
     #[allow(clippy::neg_cmp_op_on_partial_ord)]
     choose(first, a >= b, [a > b, a <= b, !(a < b)])
+}
+
+#[inline]
+pub fn lt_whole(first: usize, a: usize, b: usize) -> bool {
+    choose(first, a < b, [a <= b, a > b])
+}
+
+#[inline]
+pub fn gt_whole(first: usize, a: usize, b: usize) -> bool {
+    choose(first, a > b, [a >= b, a < b])
 }
 
 #[inline]

@@ -69,7 +69,7 @@ pub fn accepted(random: &mut Random) -> Check {
 }
 
 /// Makes the end of the motion the target.
-fn aim(check: &mut Check) {
+pub fn aim(check: &mut Check) {
     let end = rows(check)[7];
     // The sign of a NaN that arithmetic makes differs between machines.
     let target = [end.p, end.v, end.a].map(|x| if x.is_nan() { f64::NAN } else { x });
@@ -77,7 +77,7 @@ fn aim(check: &mut Check) {
 }
 
 /// The eight rows that the check computes, but for rounding.
-fn rows(check: &Check) -> [State; 8] {
+pub fn rows(check: &Check) -> [State; 8] {
     let [p, v, a, ..] = check.boundary;
     let [_, _, a_max, a_min] = check.bounds;
     let mut rows = [State { p, v, a }; 8];

@@ -8,4 +8,4 @@ pub mod moves;
 pub mod quartics;
 pub mod replies;
 
-mod motion;
+pub mod motion;
