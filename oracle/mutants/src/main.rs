@@ -3,6 +3,7 @@
 mod asked;
 mod hunt;
 mod pins;
+mod reasons;
 mod special;
 mod stored;
 mod table;
@@ -25,9 +26,10 @@ use std::io;
 use std::path::Path;
 use std::process::ExitCode;
 use std::time::Duration;
+use table::Living;
 use trial::Trial;
 
-const USAGE: &str = "usage: mutants table CRATES [PINS]
+const USAGE: &str = "usage: mutants report CRATES PINS
        mutants hunt CRATES PINS SEED SECONDS
        mutants reduce CRATES PINS";
 
@@ -36,8 +38,7 @@ fn main() -> ExitCode {
     let words: Vec<&str> = arguments.iter().map(String::as_str).collect();
     let mutants = mutation::mutants();
     let done = match &words[..] {
-        ["table", crates] => Ok(print_table(&mutants, crates, None)),
-        ["table", crates, pins] => Ok(print_table(&mutants, crates, Some(pins))),
+        ["report", crates, pins] => return report(&mutants, crates, pins),
         ["hunt", crates, pins, seed, seconds] => match (seed.parse(), seconds.parse()) {
             (Ok(seed), Ok(seconds)) => hunt(&mutants, crates, pins, seed, Duration::from_secs(seconds)),
             _ => return usage(),
@@ -59,25 +60,58 @@ fn usage() -> ExitCode {
     ExitCode::from(2)
 }
 
-/// Prints what the stored inputs tell apart, with pins that aren't stored yet, and which mutants live.
-fn print_table(mutants: &[Mutant], crates: &str, pins: Option<&str>) {
-    let mut trial = Trial::new(mutants.len());
-    let mut inputs = stored::inputs(Path::new(crates));
-    inputs.extend(pins.map(|pins| ("pins", pins::read(Path::new(pins)))));
-    for (name, asked) in inputs {
-        let before = trial.living().len();
-        asked.iter().for_each(|asked| trial.put(asked));
-        println!("{name}: {} inputs, {} mutants told apart", asked.len(), before - trial.living().len());
+/// Programs that were added with the pins.
+const ADDED: [&str; 2] = ["block_test", "replies_test"];
+
+/// Prints docs/MUTANTS.md: the table before and with the pins and the added programs, and why the living live. Fails if
+/// one lives without a reason.
+fn report(mutants: &[Mutant], crates: &str, pins: &str) -> ExitCode {
+    let is_pin = pinned(&pins::read(Path::new(pins)));
+    let mut before = Trial::new(mutants.len());
+    let mut now = Trial::new(mutants.len());
+    let mut counts = Vec::new();
+    for (program, inputs) in stored::inputs(Path::new(crates)) {
+        for asked in &inputs {
+            if !ADDED.contains(&program) && !is_pin(asked) {
+                before.put(asked);
+            }
+            now.put(asked);
+        }
+        counts.push(format!("{program} {}", inputs.len()));
     }
-    table::print(mutants, &trial);
-    table::print_living(mutants, &trial);
+    let living = table::explained(mutants, now.living());
+    println!("{}", include_str!("../report.md").replace("INPUTS", &counts.join(", ")).trim_end());
+    println!();
+    table::print(mutants, before.living(), &living);
+    println!("\n## Unobservable: no input can tell them apart");
+    table::print_reasons(&living, true);
+    println!("\n## Living: no input found");
+    table::print_reasons(&living, false);
+    without_reason(&living)
+}
+
+fn without_reason(living: &Living) -> ExitCode {
+    for mutant in &living.without {
+        eprintln!("lives without a reason: {}", table::name(mutant));
+    }
+    if living.without.is_empty() {
+        ExitCode::SUCCESS
+    } else {
+        ExitCode::FAILURE
+    }
+}
+
+/// Whether an input is one of these pins.
+fn pinned(pins: &[Asked]) -> impl Fn(&Asked) -> bool {
+    let bytes: HashSet<_> = pins.iter().map(pins::file_and_bytes).collect();
+    move |asked| bytes.contains(&pins::file_and_bytes(asked))
 }
 
 /// Stored inputs that are no pins.
 fn unpinned(crates: &str, pins: &[Asked]) -> Vec<Asked> {
+    let is_pin = pinned(pins);
     let all = stored::inputs(Path::new(crates)).into_iter().flat_map(|(_, asked)| asked);
-    let pinned: HashSet<_> = pins.iter().map(pins::file_and_bytes).collect();
-    all.filter(|asked| !pinned.contains(&pins::file_and_bytes(asked))).collect()
+    all.filter(|asked| !is_pin(asked)).collect()
 }
 
 /// Adds to the pins what a search of so long finds.
@@ -103,7 +137,6 @@ fn reduce(mutants: &[Mutant], crates: &str, pins: &str) -> io::Result<()> {
     let known = pins::read(Path::new(pins));
     let mut trial = Trial::new(mutants.len());
     unpinned(crates, &known).iter().for_each(|asked| trial.put(asked));
-    let mut open: Vec<usize> = trial.living().to_vec();
     let mut told: Vec<Vec<usize>> = known.iter().map(|pin| trial.all_told_apart_by(pin)).collect();
     let mut kept = Vec::new();
     while let Some(best) = (0..known.len()).max_by_key(|&place| (told[place].len(), usize::MAX - place)) {
@@ -111,11 +144,10 @@ fn reduce(mutants: &[Mutant], crates: &str, pins: &str) -> io::Result<()> {
             break;
         }
         let apart = told[best].clone();
-        open.retain(|mutant| !apart.contains(mutant));
         told.iter_mut().for_each(|told| told.retain(|mutant| !apart.contains(mutant)));
         let names: Vec<String> = apart.iter().map(|&number| table::name(&mutants[number])).collect();
         kept.push((known[best].clone(), names.join("; ")));
     }
-    println!("{} of {} pins kept, {} mutants live", kept.len(), known.len(), open.len());
+    println!("{} of {} pins kept", kept.len(), known.len());
     pins::write(Path::new(pins), &kept)
 }

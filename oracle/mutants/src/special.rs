@@ -3,7 +3,7 @@
 
 use crate::asked::Asked;
 use answers::{Check, FamilyCall, Limits, Move};
-use programs::generators::checks;
+use programs::generators::{checks, moves};
 use programs::generators::motion::{State, JERK_SIGNS};
 use programs::random::{nudged, power_of_two, Random};
 use programs::records::write_move;
@@ -12,8 +12,10 @@ const EPS: f64 = f64::EPSILON;
 
 pub fn drawn(random: &mut Random) -> Asked {
     match random.below(16) {
-        0..2 => record(&at_thresholds(random)),
-        2..6 => {
+        0 => record(&at_thresholds(random)),
+        1 => record(&too_small(random)),
+        2 => record(&too_fast(random)),
+        3..6 => {
             let asked = exact_motion(random);
             if random.one_in(2) {
                 record(&asked)
@@ -78,6 +80,66 @@ fn at_thresholds(random: &mut Random) -> Move {
     Move::from_numbers(numbers)
 }
 
+/// A move so small that the precisions take in what is wrong: several families find a motion.
+fn too_small(random: &mut Random) -> Move {
+    let (_, make) = random.pick(&moves::KINDS);
+    let mut asked = match random.below(3) {
+        0 => make(random),
+        1 => exact_rest(random),
+        _ => exact_motion(random),
+    };
+    if random.one_in(3) {
+        // Just too fast for the families that speed up first.
+        asked.v0 = random.pick(&[asked.limits.v_max, asked.limits.v_min]) * random.pick(&[1.0 + 1e-13, 1.0 + EPS, 1.5, 2.0]);
+    }
+    if random.one_in(4) {
+        asked.a0 = random.pick(&[0.0, asked.limits.a_max, asked.limits.a_min]);
+    }
+    let (length, time) = (-(random.below(45) as i64) - 20, random.pick(&[0, 0, 0, 3, -3, 6, -6]));
+    scaled(&asked, length, time)
+}
+
+/// A move just too fast for the families that speed up first, and so slow that the precisions take in every velocity.
+fn too_fast(random: &mut Random) -> Move {
+    let speed = random.size(-44, -28);
+    let mut part = |low: f64, high: f64| random.between(low, high);
+    let (v_max, v_min) = (speed * part(0.2, 1.0), -speed * part(0.0, 1.0));
+    let (v0, vf) = (v_max + 1e-12 * part(0.0, 1.0), part(v_min, v_max));
+    let j_max = part(0.5, 4.0);
+    let pf = speed * (speed / j_max).sqrt() * part(-3.0, 3.0);
+    let mut asked = Move {
+        p0: 0.0,
+        v0,
+        a0: 0.0,
+        pf,
+        vf,
+        af: 0.0,
+        limits: Limits {
+            v_max,
+            v_min,
+            a_max: part(0.1, 2.0),
+            a_min: -part(0.1, 2.0),
+            j_max,
+        },
+        brake: 0.0,
+        accel: 0.0,
+    };
+    if random.one_in(3) {
+        asked.a0 = random.signed_unit() * random.size(-40, -20);
+    }
+    if random.one_in(3) {
+        asked.af = random.signed_unit() * random.size(-40, -20);
+    }
+    if random.one_in(2) {
+        let root = (speed * j_max).sqrt();
+        (asked.limits.a_max, asked.limits.a_min) = (root * random.between(0.1, 2.0), -root * random.between(0.1, 2.0));
+    }
+    if random.one_in(2) {
+        asked = turned(&asked);
+    }
+    asked
+}
+
 /// A short binary fraction.
 fn short(random: &mut Random, most: u64, of: f64) -> f64 {
     random.below(most + 1) as f64 / of
@@ -139,7 +201,7 @@ fn exact_motion(random: &mut Random) -> Move {
         asked = turned(&asked);
     }
     if random.one_in(2) {
-        let (length, time) = (random.below(61) as i64 - 20, random.below(21) as i64 - 10);
+        let (length, time) = (random.below(101) as i64 - 60, random.below(21) as i64 - 10);
         let time = random.pick(&[0, time]);
         asked = scaled(&asked, length, time);
     }
