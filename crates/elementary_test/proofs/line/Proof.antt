@@ -9,7 +9,16 @@ use Rattle.elementary_test.proofs.line.Tie as tie
 returns : tie.Need-returns
 unfolding answerOf
 returns c =
-    let p = rw (c .before .before .before .before .before .before .before .sqrt .ensures, c .before .before .before .before .before .before .before .before .before .cbrt .ensures, c .before .before .before .before .before .before .before .before .before .before .cosine-pair .ensures .0, c .before .before .before .before .before .before .before .before .before .before .cosine-pair .ensures .1, c .before .before .before .before .before .before .before .before .before .before .before .double-at .ensures) at (then (then (c .before .before .before .before .before .before .put-hex .ensures) (c .before .before .before .put-doubles .ensures)) (c .put .ensures)) in
+    let p = rw (
+      c .before .before .before .before .before .before .before .sqrt .ensures,
+      c .before .before .before .before .before .before .before .before .before .cbrt .ensures,
+      c .before .before .before .before .before .before .before .before .before .before .cosine-pair .ensures .0,
+      c .before .before .before .before .before .before .before .before .before .before .cosine-pair .ensures .1,
+      c .before .before .before .before .before .before .before .before .before .before .before .double-at .ensures,
+    ) at
+    (then (then
+    (c .before .before .before .before .before .before .put-hex .ensures)
+    (c .before .before .before .put-doubles .ensures)) (c .put .ensures)) in
     (p, counted (omega arith) p)
 
 pub line-spec : {M : Type 1} → statement M

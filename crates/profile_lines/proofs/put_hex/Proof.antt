@@ -8,7 +8,12 @@ use Rattle.profile_lines.proofs.put_hex.Tie as tie
 
 returns : tie.Need-returns
 unfolding hex
-returns c = within (omega arith) (rw (c .before .before .before .before .before .hex16 .ensures, c .before .before .before .before .before .before .bits-of .ensures) at (c .before .before .put .ensures))
+returns c =
+    within (omega arith) (rw (
+      c .before .before .before .before .before .hex16 .ensures,
+      c .before .before .before .before .before .before .bits-of .ensures,
+    ) at
+    (c .before .before .put .ensures))
 
 pub put-hex-spec : {M : Type 1} → statement M
 put-hex-spec =

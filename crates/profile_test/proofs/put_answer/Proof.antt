@@ -8,7 +8,13 @@ use Rattle.profile_test.proofs.put_answer.Tie as tie
 
 returns : tie.Need-returns
 unfolding answerOf
-returns c = rw (c .before .before .before .before .before .before .before .before .before .before .before .before .before .before .before .if1 .taken) (then (then (c .before .before .before .before .before .before .before .before .before .before .before .put .ensures) (c .before .before .before .before .before .before .before .put-profile-fields .ensures)) (c .before .before .put2 .ensures))
+returns c =
+    rw
+    (c .before .before .before .before .before .before .before .before .before .before .before .before .before .before .before .if1 .taken)
+    (then (then
+    (c .before .before .before .before .before .before .before .before .before .before .before .put .ensures)
+    (c .before .before .before .before .before .before .before .put-profile-fields .ensures))
+    (c .before .before .put2 .ensures))
 
 returns-2 : tie.Need-returns-2
 unfolding answerOf

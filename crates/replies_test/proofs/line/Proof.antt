@@ -12,13 +12,22 @@ slice-aggregate-put-rest : tie.Need-slice-aggregate-put-rest
 slice-aggregate-put-rest c = sym (length-take-le _ _ (omega arith))
 
 put-rest-requires : tie.Need-put-rest-requires
-put-rest-requires c κs = rw (taken (omega arith) (c .before .before .before .before .reply-to .ensures .0)) (omega (arith, c .before .before .before .before .reply-to .ensures .0 .within))
+put-rest-requires c κs =
+    rw (taken (omega arith)
+    (c .before .before .before .before .reply-to .ensures .0)) (omega (
+      arith,
+      c .before .before .before .before .reply-to .ensures .0 .within,
+    ))
 
 returns : tie.Need-returns
 unfolding answerOf
 returns c =
     let reply = c .before .before .before .before .before .reply-to .ensures in
-    let p = within {k = 136} (omega (arith, reply .0 .within)) (then (rw (reply .1) at (c .before .before .before .put-word .ensures)) (rw (taken (omega arith) (reply .0)) at (c .put-rest .ensures))) in
+    let p = within {k = 136} (omega (arith, reply .0 .within))
+    (then
+    (rw (reply .1) at
+    (c .before .before .before .put-word .ensures))
+    (rw (taken (omega arith) (reply .0)) at (c .put-rest .ensures))) in
     (p, counted (omega arith) p)
 
 pub line-spec : {M : Type 1} → statement M

@@ -13,7 +13,12 @@ returns c = rw (eq-eqb _ _ (c .before .before .before .before .before .if1 .take
 
 returns-2 : tie.Need-returns-2
 unfolding restOf
-returns-2 c = rw (ne-eqb _ _ (c .before .before .before .before .before .before .before .before .before .if1 .left)) (within (omega arith) (then (c .before .before .before .before .before .before .put2 .ensures) (c .before .before .put3 .ensures)))
+returns-2 c =
+    rw (ne-eqb _ _
+    (c .before .before .before .before .before .before .before .before .before .if1 .left))
+    (within (omega arith) (then
+    (c .before .before .before .before .before .before .put2 .ensures)
+    (c .before .before .put3 .ensures)))
 
 pub put-rest-spec : {M : Type 1} → statement M
 put-rest-spec =

@@ -9,7 +9,11 @@ use Rattle.roots_test.proofs.line.Tie as tie
 returns : tie.Need-returns
 unfolding answerOf
 returns c =
-    let p = rw (c .before .before .before .before .before .before .before .before .roots-of .ensures) at (then (then (c .before .before .before .before .before .put-decimal .ensures) (c .before .before .before .put-values .ensures)) (c .put .ensures)) in
+    let p = rw
+    (c .before .before .before .before .before .before .before .before .roots-of .ensures) at
+    (then (then
+    (c .before .before .before .before .before .put-decimal .ensures)
+    (c .before .before .before .put-values .ensures)) (c .put .ensures)) in
     (p, counted (omega arith) p)
 
 pub line-spec : {M : Type 1} → statement M

@@ -11,13 +11,31 @@ slice-aggregate-put-doubles : tie.Need-slice-aggregate-put-doubles
 slice-aggregate-put-doubles c = sym (length-take-le _ _ (omega arith))
 
 put-doubles-requires : tie.Need-put-doubles-requires
-put-doubles-requires c κs = omega (arith, length-take-le (c .before .before .before .before .args .count) (c .before .before .before .before .args .t3) (omega arith))
+put-doubles-requires c κs =
+    omega (
+      arith,
+      length-take-le
+          (c .before .before .before .before .args .count)
+          (c .before .before .before .before .args .t3) (omega arith),
+    )
 
 returns : tie.Need-returns
-returns c = within (omega (arith, length-take-le (c .before .before .before .before .before .before .before .args .count) (c .before .before .before .before .before .before .before .args .t3) (omega arith))) (c .before .before .put-doubles .ensures)
+returns c =
+    within (omega (
+      arith,
+      length-take-le
+          (c .before .before .before .before .before .before .before .args .count)
+          (c .before .before .before .before .before .before .before .args .t3) (omega arith),
+    ))
+    (c .before .before .put-doubles .ensures)
 
 returns-2 : tie.Need-returns-2
-returns-2 c = rw (take-all (c .before .before .before .before .before .before .before .args .count) (c .before .before .before .before .before .before .before .args .t3) (omega arith)) (within (omega arith) (c .before .before .put-doubles2 .ensures))
+returns-2 c =
+    rw (take-all
+    (c .before .before .before .before .before .before .before .args .count)
+    (c .before .before .before .before .before .before .before .args .t3) (omega arith))
+    (within (omega arith)
+    (c .before .before .put-doubles2 .ensures))
 
 pub put-values-spec : {M : Type 1} → statement M
 put-values-spec =

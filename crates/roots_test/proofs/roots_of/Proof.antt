@@ -6,7 +6,15 @@ use Rattle.roots_test.proofs.roots_of.Tie as tie
 
 returns : tie.Need-returns
 unfolding rootsOf
-returns c = rw (c .ascending .ensures, c .before .solve-quart-monic-coeffs .ensures, c .before .before .before .before .before .before .before .before .double-at .ensures, c .before .before .before .before .before .before .double-at2 .ensures, c .before .before .before .before .double-at3 .ensures, c .before .before .double-at4 .ensures)
+returns c =
+    rw (
+      c .ascending .ensures,
+      c .before .solve-quart-monic-coeffs .ensures,
+      c .before .before .before .before .before .before .before .before .double-at .ensures,
+      c .before .before .before .before .before .before .double-at2 .ensures,
+      c .before .before .before .before .double-at3 .ensures,
+      c .before .before .double-at4 .ensures,
+    )
 
 pub roots-of-spec : {M : Type 1} → statement M
 roots-of-spec =

@@ -9,7 +9,15 @@ use Rattle.block_test.proofs.lines.line.Tie as tie
 returns : tie.Need-returns
 unfolding lineOf
 returns c =
-    let p = rw (c .before .before .before .before .before .before .before .before .before .before .before .selected-of .ensures, c .before .before .before .before .given-of .ensures) at (then (then (then (c .before .before .before .before .before .before .before .before .put-answer .ensures) (c .before .before .before .before .before .before .put-blockings .ensures)) (c .before .before .before .put-blockings2 .ensures)) (c .put .ensures)) in
+    let p = rw (
+      c .before .before .before .before .before .before .before .before .before .before .before .selected-of .ensures,
+      c .before .before .before .before .given-of .ensures,
+    ) at
+    (then
+    (then (then
+    (c .before .before .before .before .before .before .before .before .put-answer .ensures)
+    (c .before .before .before .before .before .before .put-blockings .ensures))
+    (c .before .before .before .put-blockings2 .ensures)) (c .put .ensures)) in
     (p, counted (omega arith) p)
 
 pub line-spec : {M : Type 1} → statement M

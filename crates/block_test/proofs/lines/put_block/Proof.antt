@@ -7,7 +7,15 @@ use Rattle.block_test.proofs.lines.put_block.Tie as tie
 
 returns : tie.Need-returns
 unfolding blockText
-returns c = then (then (then (then (c .before .before .before .before .before .before .before .before .before .before .before .before .before .before .before .before .before .before .put .ensures) (c .before .before .before .before .before .before .before .before .before .before .before .before .before .before .put-double .ensures)) (c .before .before .before .before .before .before .before .before .before .before .put-double2 .ensures)) (c .before .before .before .before .before .before .put-interval .ensures)) (c .before .before .put-interval2 .ensures)
+returns c =
+    then
+    (then
+    (then (then
+    (c .before .before .before .before .before .before .before .before .before .before .before .before .before .before .before .before .before .before .put .ensures)
+    (c .before .before .before .before .before .before .before .before .before .before .before .before .before .before .put-double .ensures))
+    (c .before .before .before .before .before .before .before .before .before .before .put-double2 .ensures))
+    (c .before .before .before .before .before .before .put-interval .ensures))
+    (c .before .before .put-interval2 .ensures)
 
 pub put-block-spec : {M : Type 1} → statement M
 put-block-spec =

@@ -6,7 +6,13 @@ use Rattle.block_test.proofs.records.given_of.Tie as tie
 
 returns : tie.Need-returns
 unfolding givenOf
-returns c = rw (c .before .before .before .interval-at .ensures, c .before .before .interval-at2 .ensures, c .double-at .ensures, c .before .before .before .before .empty .ensures)
+returns c =
+    rw (
+      c .before .before .before .interval-at .ensures,
+      c .before .before .interval-at2 .ensures,
+      c .double-at .ensures,
+      c .before .before .before .before .empty .ensures,
+    )
 
 pub given-of-spec : {M : Type 1} → statement M
 given-of-spec =

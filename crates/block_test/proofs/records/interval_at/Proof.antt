@@ -6,7 +6,14 @@ use Rattle.block_test.proofs.records.interval_at.Tie as tie
 
 returns : tie.Need-returns
 unfolding intervalAt
-returns c = rw (c .before .stretch-of .ensures, c .before .before .byte-at .ensures .0, c .before .before .before .before .before .before .double-at .ensures, c .before .before .before .before .double-at2 .ensures, c .empty .ensures)
+returns c =
+    rw (
+      c .before .stretch-of .ensures,
+      c .before .before .byte-at .ensures .0,
+      c .before .before .before .before .before .before .double-at .ensures,
+      c .before .before .before .before .double-at2 .ensures,
+      c .empty .ensures,
+    )
 
 pub interval-at-spec : {M : Type 1} → statement M
 interval-at-spec =

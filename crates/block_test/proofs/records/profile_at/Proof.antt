@@ -7,7 +7,14 @@ use Rattle.block_test.proofs.records.profile_at.Tie as tie
 
 returns : tie.Need-returns
 unfolding profileAt emptyProfile
-returns c = rw (c .before .before .before .before .direction-of .ensures, c .before .before .before .before .before .byte-at .ensures .0, c .before .before .before .before .before .before .before .double-at .ensures, c .before .before .double-at2 .ensures, c .double-at3 .ensures)
+returns c =
+    rw (
+      c .before .before .before .before .direction-of .ensures,
+      c .before .before .before .before .before .byte-at .ensures .0,
+      c .before .before .before .before .before .before .before .double-at .ensures,
+      c .before .before .double-at2 .ensures,
+      c .double-at3 .ensures,
+    )
 
 pub profile-at-spec : {M : Type 1} → statement M
 profile-at-spec =

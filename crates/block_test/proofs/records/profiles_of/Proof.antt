@@ -6,7 +6,15 @@ use Rattle.block_test.proofs.records.profiles_of.Tie as tie
 
 returns : tie.Need-returns
 unfolding profilesOf
-returns c = rw (c .before .before .before .before .before .profile-at .ensures, c .before .before .before .before .profile-at2 .ensures, c .before .before .before .profile-at3 .ensures, c .before .before .profile-at4 .ensures, c .before .profile-at5 .ensures, c .profile-at6 .ensures)
+returns c =
+    rw (
+      c .before .before .before .before .before .profile-at .ensures,
+      c .before .before .before .before .profile-at2 .ensures,
+      c .before .before .before .profile-at3 .ensures,
+      c .before .before .profile-at4 .ensures,
+      c .before .profile-at5 .ensures,
+      c .profile-at6 .ensures,
+    )
 
 pub profiles-of-spec : {M : Type 1} → statement M
 profiles-of-spec =

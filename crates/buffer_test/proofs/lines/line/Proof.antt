@@ -20,7 +20,14 @@ put-answer-requires c κs = (omega arith, simp length-take (omega (arith, c .bef
 
 returns : tie.Need-returns
 unfolding moveOf bufferOf
-returns c = let p = rw (c .before .before .before .before .before .double-at .ensures, c .before .before .before .before .before .before .before .before .before .doubles-of .ensures, c .before .before .before .before .before .before .before .before .count-at .ensures .0, c .before .before .before .before .before .before .before .count-at2 .ensures .0) at (c .before .put-answer .ensures) in (p, counted (omega arith) p)
+returns c =
+    let p = rw (
+      c .before .before .before .before .before .double-at .ensures,
+      c .before .before .before .before .before .before .before .before .before .doubles-of .ensures,
+      c .before .before .before .before .before .before .before .before .count-at .ensures .0,
+      c .before .before .before .before .before .before .before .count-at2 .ensures .0,
+    ) at
+    (c .before .put-answer .ensures) in (p, counted (omega arith) p)
 
 pub line-spec : {M : Type 1} → statement M
 line-spec =

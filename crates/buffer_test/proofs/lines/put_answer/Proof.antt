@@ -7,7 +7,18 @@ use Rattle.buffer_test.proofs.lines.put_answer.Tie as tie
 
 returns : tie.Need-returns
 unfolding answerOf
-returns c = rw (c .before .before .before .before .before .before .before .before .before .before .before .before .before .before .before .before .before .before .is-blocked .ensures .status-is, c .before .before .before .before .before .before .before .before .before .before .before .before .before .before .before .before .before .before .before .before .before .before .plan .ensures .status-is, c .before .before .before .before .before .before .before .before .before .before .before .before .before .before .before .before .before .before .before .before .before .before .plan .ensures .after-is) at (then (then (then (c .before .before .before .before .before .before .before .before .before .before .before .before .before .before .before .before .put-decimal .ensures) (c .before .before .before .before .before .before .before .before .before .before .before .put-buffer .ensures)) (c .before .before .before .before .before .before .before .put-number .ensures)) (c .before .before .put .ensures))
+returns c =
+    rw (
+      c .before .before .before .before .before .before .before .before .before .before .before .before .before .before .before .before .before .before .is-blocked .ensures .status-is,
+      c .before .before .before .before .before .before .before .before .before .before .before .before .before .before .before .before .before .before .before .before .before .before .plan .ensures .status-is,
+      c .before .before .before .before .before .before .before .before .before .before .before .before .before .before .before .before .before .before .before .before .before .before .plan .ensures .after-is,
+    ) at
+    (then
+    (then (then
+    (c .before .before .before .before .before .before .before .before .before .before .before .before .before .before .before .before .put-decimal .ensures)
+    (c .before .before .before .before .before .before .before .before .before .before .before .put-buffer .ensures))
+    (c .before .before .before .before .before .before .before .put-number .ensures))
+    (c .before .before .put .ensures))
 
 pub put-answer-spec : {M : Type 1} → statement M
 put-answer-spec =

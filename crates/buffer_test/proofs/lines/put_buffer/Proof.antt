@@ -14,11 +14,25 @@ returns c = rw (eq-eqb _ _ (c .before .before .before .before .if1 .taken)) (wit
 
 returns-2 : tie.Need-returns-2
 unfolding bufferFields
-returns-2 c = rw (ne-eqb _ _ (c .before .before .before .before .before .before .before .if1 .left), sym (c .before .before .before .before .before .before .is-unchanged .ensures) ∙ c .before .before .before .before .before .if2 .taken) (within (omega arith) (c .before .before .put .ensures))
+returns-2 c =
+    rw (
+      ne-eqb _ _
+          (c .before .before .before .before .before .before .before .if1 .left),
+      sym (c .before .before .before .before .before .before .is-unchanged .ensures) ∙ c .before .before .before .before .before .if2 .taken,
+    )
+    (within (omega arith)
+    (c .before .before .put .ensures))
 
 returns-3 : tie.Need-returns-3
 unfolding bufferFields
-returns-3 c = rw (ne-eqb _ _ (c .before .before .before .before .before .before .before .if1 .left), sym (c .before .before .before .before .before .before .is-unchanged .ensures) ∙ c .before .before .before .before .before .if2 .left) (within (omega arith) (c .before .before .put2 .ensures))
+returns-3 c =
+    rw (
+      ne-eqb _ _
+          (c .before .before .before .before .before .before .before .if1 .left),
+      sym (c .before .before .before .before .before .before .is-unchanged .ensures) ∙ c .before .before .before .before .before .if2 .left,
+    )
+    (within (omega arith)
+    (c .before .before .put2 .ensures))
 
 pub put-buffer-spec : {M : Type 1} → statement M
 put-buffer-spec =

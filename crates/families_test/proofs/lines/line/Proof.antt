@@ -9,15 +9,44 @@ use Rattle.families_test.proofs.lines.line.Tie as tie
 
 returns : tie.Need-returns
 unfolding lineOf
-returns c = rw (← c .before .before .before .before .byte-at .ensures .0, eq-eqb _ _ (c .before .before .before .if1 .taken)) (let p = rw (c .before .single-step .ensures) at (within {k = 5253} (omega arith) (c .put-single .ensures)) in (p, counted (omega arith) p))
+returns c =
+    rw (
+      ← c .before .before .before .before .byte-at .ensures .0,
+      eq-eqb _ _
+          (c .before .before .before .if1 .taken),
+    )
+    (let p = rw
+    (c .before .single-step .ensures) at
+    (within {k = 5253} (omega arith) (c .put-single .ensures)) in (p, counted (omega arith) p))
 
 returns-2 : tie.Need-returns-2
 unfolding lineOf
-returns-2 c = rw (← c .before .before .before .before .before .before .before .byte-at .ensures .0, ne-eqb _ _ (c .before .before .before .before .before .before .if1 .left), ← c .before .before .before .before .byte-at2 .ensures .0, lt-ltb _ _ (c .before .before .before .if2 .taken)) (let p = within {k = 5253} (omega arith) (c .put .ensures) in (p, counted (omega arith) p))
+returns-2 c =
+    rw (
+      ← c .before .before .before .before .before .before .before .byte-at .ensures .0,
+      ne-eqb _ _
+          (c .before .before .before .before .before .before .if1 .left),
+      ← c .before .before .before .before .byte-at2 .ensures .0,
+      lt-ltb _ _
+          (c .before .before .before .if2 .taken),
+    )
+    (let p = within {k = 5253} (omega arith) (c .put .ensures) in (p, counted (omega arith) p))
 
 returns-3 : tie.Need-returns-3
 unfolding lineOf
-returns-3 c = rw (← c .before .before .before .before .before .before .before .before .byte-at .ensures .0, ne-eqb _ _ (c .before .before .before .before .before .before .before .if1 .left), ← c .before .before .before .before .before .byte-at2 .ensures .0, le-ltb _ _ (c .before .before .before .before .if2 .left)) (let p = rw (c .before .after-family .ensures, c .before .before .list-of .ensures) at (c .put-added .ensures) in (p, counted (omega arith) p))
+returns-3 c =
+    rw (
+      ← c .before .before .before .before .before .before .before .before .byte-at .ensures .0,
+      ne-eqb _ _
+          (c .before .before .before .before .before .before .before .if1 .left),
+      ← c .before .before .before .before .before .byte-at2 .ensures .0,
+      le-ltb _ _
+          (c .before .before .before .before .if2 .left),
+    )
+    (let p = rw (
+      c .before .after-family .ensures,
+      c .before .before .list-of .ensures,
+    ) at (c .put-added .ensures) in (p, counted (omega arith) p))
 
 pub line-spec : {M : Type 1} → statement M
 line-spec =

@@ -7,14 +7,62 @@ use Rattle.families_test.proofs.lines.put_added.Statement.{statement}
 use Rattle.families_test.proofs.lines.put_added.Tie as tie
 
 put-requires : tie.Need-put-requires
-put-requires c κs = let p = then (then (then (then (then (then (c .before .before .before .before .before .before .before .before .before .before .before .before .before .before .before .before .before .before .before .before .before .before .before .before .before .before .before .before .put-decimal .ensures) (c .before .before .before .before .before .before .before .before .before .before .before .before .before .before .before .before .before .before .before .before .before .before .before .before .put-if-added .ensures)) (c .before .before .before .before .before .before .before .before .before .before .before .before .before .before .before .before .before .before .before .before .put-if-added2 .ensures)) (c .before .before .before .before .before .before .before .before .before .before .before .before .before .before .before .before .put-if-added3 .ensures)) (c .before .before .before .before .before .before .before .before .before .before .before .before .put-if-added4 .ensures)) (c .before .before .before .before .before .before .before .before .put-if-added5 .ensures)) (c .before .before .before .before .put-if-added6 .ensures) in omega (arith, c .before .before .before .before .before .before .before .before .before .before .before .before .before .before .before .before .before .before .before .before .before .before .before .before .before .before .before .before .before .before .before .before .pre, p .behind, p .within, p .same)
+put-requires c κs =
+    let p = then
+    (then
+    (then
+    (then
+    (then (then
+    (c .before .before .before .before .before .before .before .before .before .before .before .before .before .before .before .before .before .before .before .before .before .before .before .before .before .before .before .before .put-decimal .ensures)
+    (c .before .before .before .before .before .before .before .before .before .before .before .before .before .before .before .before .before .before .before .before .before .before .before .before .put-if-added .ensures))
+    (c .before .before .before .before .before .before .before .before .before .before .before .before .before .before .before .before .before .before .before .before .put-if-added2 .ensures))
+    (c .before .before .before .before .before .before .before .before .before .before .before .before .before .before .before .before .put-if-added3 .ensures))
+    (c .before .before .before .before .before .before .before .before .before .before .before .before .put-if-added4 .ensures))
+    (c .before .before .before .before .before .before .before .before .put-if-added5 .ensures))
+    (c .before .before .before .before .put-if-added6 .ensures) in omega (
+      arith,
+      c .before .before .before .before .before .before .before .before .before .before .before .before .before .before .before .before .before .before .before .before .before .before .before .before .before .before .before .before .before .before .before .before .pre,
+      p .behind,
+      p .within,
+      p .same,
+    )
 
 same-length : tie.Need-same-length
-same-length c = then (then (then (then (then (then (then (c .before .before .before .before .before .before .before .before .before .before .before .before .before .before .before .before .before .before .before .before .before .before .before .before .before .before .before .before .before .before .before .put-decimal .ensures) (c .before .before .before .before .before .before .before .before .before .before .before .before .before .before .before .before .before .before .before .before .before .before .before .before .before .before .before .put-if-added .ensures)) (c .before .before .before .before .before .before .before .before .before .before .before .before .before .before .before .before .before .before .before .before .before .before .before .put-if-added2 .ensures)) (c .before .before .before .before .before .before .before .before .before .before .before .before .before .before .before .before .before .before .before .put-if-added3 .ensures)) (c .before .before .before .before .before .before .before .before .before .before .before .before .before .before .before .put-if-added4 .ensures)) (c .before .before .before .before .before .before .before .before .before .before .before .put-if-added5 .ensures)) (c .before .before .before .before .before .before .before .put-if-added6 .ensures)) (c .before .before .put .ensures) .same
+same-length c =
+    then
+    (then
+    (then
+    (then
+    (then
+    (then (then
+    (c .before .before .before .before .before .before .before .before .before .before .before .before .before .before .before .before .before .before .before .before .before .before .before .before .before .before .before .before .before .before .before .put-decimal .ensures)
+    (c .before .before .before .before .before .before .before .before .before .before .before .before .before .before .before .before .before .before .before .before .before .before .before .before .before .before .before .put-if-added .ensures))
+    (c .before .before .before .before .before .before .before .before .before .before .before .before .before .before .before .before .before .before .before .before .before .before .before .put-if-added2 .ensures))
+    (c .before .before .before .before .before .before .before .before .before .before .before .before .before .before .before .before .before .before .before .put-if-added3 .ensures))
+    (c .before .before .before .before .before .before .before .before .before .before .before .before .before .before .before .put-if-added4 .ensures))
+    (c .before .before .before .before .before .before .before .before .before .before .before .put-if-added5 .ensures))
+    (c .before .before .before .before .before .before .before .put-if-added6 .ensures))
+    (c .before .before .put .ensures) .same
 
 returns : tie.Need-returns
 unfolding addedLine
-returns c = rw (c .before .before .before .before .before .before .before .before .before .before .before .before .before .before .before .before .before .before .before .before .before .before .before .before .before .before .before .before .before .before .before .before .above .ensures) at (then (then (then (then (then (then (then (c .before .before .before .before .before .before .before .before .before .before .before .before .before .before .before .before .before .before .before .before .before .before .before .before .before .before .before .before .before .before .before .put-decimal .ensures) (c .before .before .before .before .before .before .before .before .before .before .before .before .before .before .before .before .before .before .before .before .before .before .before .before .before .before .before .put-if-added .ensures)) (c .before .before .before .before .before .before .before .before .before .before .before .before .before .before .before .before .before .before .before .before .before .before .before .put-if-added2 .ensures)) (c .before .before .before .before .before .before .before .before .before .before .before .before .before .before .before .before .before .before .before .put-if-added3 .ensures)) (c .before .before .before .before .before .before .before .before .before .before .before .before .before .before .before .put-if-added4 .ensures)) (c .before .before .before .before .before .before .before .before .before .before .before .put-if-added5 .ensures)) (c .before .before .before .before .before .before .before .put-if-added6 .ensures)) (c .before .before .put .ensures))
+returns c =
+    rw
+    (c .before .before .before .before .before .before .before .before .before .before .before .before .before .before .before .before .before .before .before .before .before .before .before .before .before .before .before .before .before .before .before .before .above .ensures) at
+    (then
+    (then
+    (then
+    (then
+    (then
+    (then (then
+    (c .before .before .before .before .before .before .before .before .before .before .before .before .before .before .before .before .before .before .before .before .before .before .before .before .before .before .before .before .before .before .before .put-decimal .ensures)
+    (c .before .before .before .before .before .before .before .before .before .before .before .before .before .before .before .before .before .before .before .before .before .before .before .before .before .before .before .put-if-added .ensures))
+    (c .before .before .before .before .before .before .before .before .before .before .before .before .before .before .before .before .before .before .before .before .before .before .before .put-if-added2 .ensures))
+    (c .before .before .before .before .before .before .before .before .before .before .before .before .before .before .before .before .before .before .before .put-if-added3 .ensures))
+    (c .before .before .before .before .before .before .before .before .before .before .before .before .before .before .before .put-if-added4 .ensures))
+    (c .before .before .before .before .before .before .before .before .before .before .before .put-if-added5 .ensures))
+    (c .before .before .before .before .before .before .before .put-if-added6 .ensures))
+    (c .before .before .put .ensures))
 
 pub put-added-spec : {M : Type 1} → statement M
 put-added-spec =

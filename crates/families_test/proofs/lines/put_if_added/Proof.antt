@@ -12,7 +12,9 @@ returns : tie.Need-returns
 unfolding ifAdded
 returns c =
     let s = c .before .before .before .before .before .before .before in
-    rw (c .before .before .before .before .before .if1 .taken) (slot-put (s .args .t3) _ (s .args .at) (six (s .args .t3) (s .good .1 .1 .0 .1 .1 .0 .1 .0 .1)) (s .pre .0) (c .before .before .put-profile-fields .ensures))
+    rw
+    (c .before .before .before .before .before .if1 .taken) (slot-put (s .args .t3) _ (s .args .at) (six (s .args .t3) (s .good .1 .1 .0 .1 .1 .0 .1 .0 .1)) (s .pre .0)
+    (c .before .before .put-profile-fields .ensures))
 
 returns-2 : tie.Need-returns-2
 unfolding ifAdded

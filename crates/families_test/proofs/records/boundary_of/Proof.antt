@@ -7,7 +7,15 @@ use Rattle.families_test.proofs.records.boundary_of.Tie as tie
 
 returns : tie.Need-returns
 unfolding boundaryOf withBoundary
-returns c = rw (c .before .before .before .before .with-boundary .ensures, c .before .before .before .before .before .before .before .empty .ensures, c .before .before .before .before .before .before .start-of .ensures, c .before .before .before .before .before .target-of .ensures, c .before .before .double-at .ensures, c .double-at2 .ensures)
+returns c =
+    rw (
+      c .before .before .before .before .with-boundary .ensures,
+      c .before .before .before .before .before .before .before .empty .ensures,
+      c .before .before .before .before .before .before .start-of .ensures,
+      c .before .before .before .before .before .target-of .ensures,
+      c .before .before .double-at .ensures,
+      c .double-at2 .ensures,
+    )
 
 pub boundary-of-spec : {M : Type 1} → statement M
 boundary-of-spec =

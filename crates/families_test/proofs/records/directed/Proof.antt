@@ -7,7 +7,14 @@ use Rattle.families_test.proofs.records.directed.Tie as tie
 
 returns : tie.Need-returns
 unfolding directed
-returns c = rw (c .swapped .ensures, c .before .before .before .before .limits-of .ensures, ← c .before .before .byte-at .ensures .0, eq-eqb _ _ (c .before .if1 .taken))
+returns c =
+    rw (
+      c .swapped .ensures,
+      c .before .before .before .before .limits-of .ensures,
+      ← c .before .before .byte-at .ensures .0,
+      eq-eqb _ _
+          (c .before .if1 .taken),
+    )
 
 returns-2 : tie.Need-returns-2
 unfolding directed

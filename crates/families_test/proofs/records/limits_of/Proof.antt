@@ -6,7 +6,14 @@ use Rattle.families_test.proofs.records.limits_of.Tie as tie
 
 returns : tie.Need-returns
 unfolding limitsOf
-returns c = rw (c .before .before .before .before .before .before .before .before .double-at .ensures, c .before .before .before .before .before .before .double-at2 .ensures, c .before .before .before .before .double-at3 .ensures, c .before .before .double-at4 .ensures, c .double-at5 .ensures)
+returns c =
+    rw (
+      c .before .before .before .before .before .before .before .before .double-at .ensures,
+      c .before .before .before .before .before .before .double-at2 .ensures,
+      c .before .before .before .before .double-at3 .ensures,
+      c .before .before .double-at4 .ensures,
+      c .double-at5 .ensures,
+    )
 
 pub limits-of-spec : {M : Type 1} → statement M
 limits-of-spec =

@@ -6,7 +6,13 @@ use Rattle.profile_test.proofs.records.bounds_of.Tie as tie
 
 returns : tie.Need-returns
 unfolding boundsOf
-returns c = rw (c .before .before .before .before .before .before .double-at .ensures, c .before .before .before .before .double-at2 .ensures, c .before .before .double-at3 .ensures, c .double-at4 .ensures)
+returns c =
+    rw (
+      c .before .before .before .before .before .before .double-at .ensures,
+      c .before .before .before .before .double-at2 .ensures,
+      c .before .before .double-at3 .ensures,
+      c .double-at4 .ensures,
+    )
 
 pub bounds-of-spec : {M : Type 1} → statement M
 bounds-of-spec =
