@@ -13,7 +13,8 @@ use Rattle.candidates.specs.List.{slot}
 use Rattle.candidates.specs.declared.Candidates.{Candidates}
 use Rattle.families_test.specs.Records.{boundaryOf, listOf}
 
-pub list-made : (b : List ℕ) (n : ℕ) {q e : Profile} → q ≡ boundaryOf b → e ≡ emptyProfile → _≡_ {A = Candidates} (record { «valid_profiles» = set (replicate 6 e) n q; «current_index» = n }) (listOf b n)
+pub list-made : (b : List ℕ) (n : ℕ) {q e : Profile} → q ≡ boundaryOf b → e ≡ emptyProfile
+    → _≡_ {A = Candidates} (record { «valid_profiles» = set (replicate 6 e) n q; «current_index» = n }) (listOf b n)
 unfolding listOf
 list-made b n {q} p h =
     ap (λ (z : Profile). record { «valid_profiles» = set (replicate 6 z) n q; «current_index» = n }) h

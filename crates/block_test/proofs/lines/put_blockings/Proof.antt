@@ -8,12 +8,13 @@ use Rattle.block_test.proofs.lines.put_blockings.Tie as tie
 
 put-blocking-requires-4 : tie.Need-put-blocking-requires-4
 put-blocking-requires-4 c κs =
+    let d = c .before .before .before .before .before .before .before .before .before .before .before .before .before .before in
     let p = then (then
-    (c .before .before .before .before .before .before .before .before .before .before .before .before .before .before .before .before .before .before .before .before .put-blocking .ensures)
+    (d .before .before .before .before .before .before .put-blocking .ensures)
     (c .before .before .before .before .before .before .before .before .before .before .before .before .before .put-blocking2 .ensures))
     (c .before .before .before .before .before .before .put-blocking3 .ensures) in omega (
       arith,
-      c .before .before .before .before .before .before .before .before .before .before .before .before .before .before .before .before .before .before .before .before .before .before .before .before .before .before .pre,
+      d .before .before .before .before .before .before .before .before .before .before .before .before .pre,
       p .behind,
       p .within,
       p .same,
@@ -22,20 +23,21 @@ put-blocking-requires-4 c κs =
 returns : tie.Need-returns
 unfolding blockingFields
 returns c =
+    let d = c .before .before .before .before .before .before .before .before .before .before .before .before .before .before in
     rw (
-      c .before .before .before .before .before .before .before .before .before .before .before .before .before .before .before .before .before .before .before .before .before .before .before .before .is-blocked .ensures .answer,
-      c .before .before .before .before .before .before .before .before .before .before .before .before .before .before .before .before .before .is-blocked2 .ensures .answer,
+      d .before .before .before .before .before .before .before .before .before .before .is-blocked .ensures .answer,
+      d .before .before .before .is-blocked2 .ensures .answer,
       c .before .before .before .before .before .before .before .before .before .before .is-blocked3 .ensures .answer,
       c .before .before .before .is-blocked4 .ensures .answer,
-      c .before .before .before .before .before .before .before .before .before .before .before .before .before .before .before .before .before .before .before .before .before .before .before .before .before .double-at .ensures,
-      c .before .before .before .before .before .before .before .before .before .before .before .before .before .before .before .before .before .before .double-at2 .ensures,
+      d .before .before .before .before .before .before .before .before .before .before .before .double-at .ensures,
+      d .before .before .before .before .double-at2 .ensures,
       c .before .before .before .before .before .before .before .before .before .before .before .double-at3 .ensures,
       c .before .before .before .before .double-at4 .ensures,
     ) at
     (then
     (then (then
-    (c .before .before .before .before .before .before .before .before .before .before .before .before .before .before .before .before .before .before .before .before .before .before .before .put-blocking .ensures)
-    (c .before .before .before .before .before .before .before .before .before .before .before .before .before .before .before .before .put-blocking2 .ensures))
+    (d .before .before .before .before .before .before .before .before .before .put-blocking .ensures)
+    (d .before .before .put-blocking2 .ensures))
     (c .before .before .before .before .before .before .before .before .before .put-blocking3 .ensures))
     (c .before .before .put-blocking4 .ensures))
 

@@ -8,14 +8,15 @@ use Rattle.buffer_test.proofs.lines.put_answer.Tie as tie
 returns : tie.Need-returns
 unfolding answerOf
 returns c =
+    let d = c .before .before .before .before .before .before .before .before .before .before .before .before .before .before in
     rw (
-      c .before .before .before .before .before .before .before .before .before .before .before .before .before .before .before .before .before .before .is-blocked .ensures .status-is,
-      c .before .before .before .before .before .before .before .before .before .before .before .before .before .before .before .before .before .before .before .before .before .before .plan .ensures .status-is,
-      c .before .before .before .before .before .before .before .before .before .before .before .before .before .before .before .before .before .before .before .before .before .before .plan .ensures .after-is,
+      d .before .before .before .before .is-blocked .ensures .status-is,
+      d .before .before .before .before .before .before .before .before .plan .ensures .status-is,
+      d .before .before .before .before .before .before .before .before .plan .ensures .after-is,
     ) at
     (then
     (then (then
-    (c .before .before .before .before .before .before .before .before .before .before .before .before .before .before .before .before .put-decimal .ensures)
+    (d .before .before .put-decimal .ensures)
     (c .before .before .before .before .before .before .before .before .before .before .before .put-buffer .ensures))
     (c .before .before .before .before .before .before .before .put-number .ensures))
     (c .before .before .put .ensures))

@@ -9,16 +9,17 @@ use Rattle.buffer_test.proofs.records.doubles_of.Tie as tie
 returns : tie.Need-returns
 unfolding doublesOf
 returns c =
+    let d = c .before .before .before .before .before .before .before .before .before .before .before .before .before .before in
     cons-same
-    (c .before .before .before .before .before .before .before .before .before .before .before .before .before .before .before .before .before .before .before .before .before .before .before .before .before .before .before .before .before .before .double-at .ensures) (cons-same
-    (c .before .before .before .before .before .before .before .before .before .before .before .before .before .before .before .before .before .before .before .before .before .before .before .before .before .before .before .before .double-at2 .ensures) (cons-same
-    (c .before .before .before .before .before .before .before .before .before .before .before .before .before .before .before .before .before .before .before .before .before .before .before .before .before .before .double-at3 .ensures) (cons-same
-    (c .before .before .before .before .before .before .before .before .before .before .before .before .before .before .before .before .before .before .before .before .before .before .before .before .double-at4 .ensures) (cons-same
-    (c .before .before .before .before .before .before .before .before .before .before .before .before .before .before .before .before .before .before .before .before .before .before .double-at5 .ensures) (cons-same
-    (c .before .before .before .before .before .before .before .before .before .before .before .before .before .before .before .before .before .before .before .before .double-at6 .ensures) (cons-same
-    (c .before .before .before .before .before .before .before .before .before .before .before .before .before .before .before .before .before .before .double-at7 .ensures) (cons-same
-    (c .before .before .before .before .before .before .before .before .before .before .before .before .before .before .before .before .double-at8 .ensures) (cons-same
-    (c .before .before .before .before .before .before .before .before .before .before .before .before .before .before .double-at9 .ensures) (cons-same
+    (d .before .before .before .before .before .before .before .before .before .before .before .before .before .before .before .before .double-at .ensures) (cons-same
+    (d .before .before .before .before .before .before .before .before .before .before .before .before .before .before .double-at2 .ensures) (cons-same
+    (d .before .before .before .before .before .before .before .before .before .before .before .before .double-at3 .ensures) (cons-same
+    (d .before .before .before .before .before .before .before .before .before .before .double-at4 .ensures) (cons-same
+    (d .before .before .before .before .before .before .before .before .double-at5 .ensures) (cons-same
+    (d .before .before .before .before .before .before .double-at6 .ensures) (cons-same
+    (d .before .before .before .before .double-at7 .ensures) (cons-same
+    (d .before .before .double-at8 .ensures) (cons-same
+    (d .double-at9 .ensures) (cons-same
     (c .before .before .before .before .before .before .before .before .before .before .before .before .double-at10 .ensures) (cons-same
     (c .before .before .before .before .before .before .before .before .before .before .double-at11 .ensures) (cons-same
     (c .before .before .before .before .before .before .before .before .double-at12 .ensures) (cons-same

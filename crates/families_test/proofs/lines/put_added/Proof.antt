@@ -8,20 +8,21 @@ use Rattle.families_test.proofs.lines.put_added.Tie as tie
 
 put-requires : tie.Need-put-requires
 put-requires c κs =
+    let d = c .before .before .before .before .before .before .before .before .before .before .before .before .before .before in
     let p = then
     (then
     (then
     (then
     (then (then
-    (c .before .before .before .before .before .before .before .before .before .before .before .before .before .before .before .before .before .before .before .before .before .before .before .before .before .before .before .before .put-decimal .ensures)
-    (c .before .before .before .before .before .before .before .before .before .before .before .before .before .before .before .before .before .before .before .before .before .before .before .before .put-if-added .ensures))
-    (c .before .before .before .before .before .before .before .before .before .before .before .before .before .before .before .before .before .before .before .before .put-if-added2 .ensures))
-    (c .before .before .before .before .before .before .before .before .before .before .before .before .before .before .before .before .put-if-added3 .ensures))
+    (d .before .before .before .before .before .before .before .before .before .before .before .before .before .before .put-decimal .ensures)
+    (d .before .before .before .before .before .before .before .before .before .before .put-if-added .ensures))
+    (d .before .before .before .before .before .before .put-if-added2 .ensures))
+    (d .before .before .put-if-added3 .ensures))
     (c .before .before .before .before .before .before .before .before .before .before .before .before .put-if-added4 .ensures))
     (c .before .before .before .before .before .before .before .before .put-if-added5 .ensures))
     (c .before .before .before .before .put-if-added6 .ensures) in omega (
       arith,
-      c .before .before .before .before .before .before .before .before .before .before .before .before .before .before .before .before .before .before .before .before .before .before .before .before .before .before .before .before .before .before .before .before .pre,
+      d .before .before .before .before .before .before .before .before .before .before .before .before .before .before .before .before .before .before .pre,
       p .behind,
       p .within,
       p .same,
@@ -29,17 +30,18 @@ put-requires c κs =
 
 same-length : tie.Need-same-length
 same-length c =
+    let d = c .before .before .before .before .before .before .before .before .before .before .before .before .before .before in
     then
     (then
     (then
     (then
     (then
     (then (then
-    (c .before .before .before .before .before .before .before .before .before .before .before .before .before .before .before .before .before .before .before .before .before .before .before .before .before .before .before .before .before .before .before .put-decimal .ensures)
-    (c .before .before .before .before .before .before .before .before .before .before .before .before .before .before .before .before .before .before .before .before .before .before .before .before .before .before .before .put-if-added .ensures))
-    (c .before .before .before .before .before .before .before .before .before .before .before .before .before .before .before .before .before .before .before .before .before .before .before .put-if-added2 .ensures))
-    (c .before .before .before .before .before .before .before .before .before .before .before .before .before .before .before .before .before .before .before .put-if-added3 .ensures))
-    (c .before .before .before .before .before .before .before .before .before .before .before .before .before .before .before .put-if-added4 .ensures))
+    (d .before .before .before .before .before .before .before .before .before .before .before .before .before .before .before .before .before .put-decimal .ensures)
+    (d .before .before .before .before .before .before .before .before .before .before .before .before .before .put-if-added .ensures))
+    (d .before .before .before .before .before .before .before .before .before .put-if-added2 .ensures))
+    (d .before .before .before .before .before .put-if-added3 .ensures))
+    (d .before .put-if-added4 .ensures))
     (c .before .before .before .before .before .before .before .before .before .before .before .put-if-added5 .ensures))
     (c .before .before .before .before .before .before .before .put-if-added6 .ensures))
     (c .before .before .put .ensures) .same
@@ -47,19 +49,20 @@ same-length c =
 returns : tie.Need-returns
 unfolding addedLine
 returns c =
+    let d = c .before .before .before .before .before .before .before .before .before .before .before .before .before .before in
     rw
-    (c .before .before .before .before .before .before .before .before .before .before .before .before .before .before .before .before .before .before .before .before .before .before .before .before .before .before .before .before .before .before .before .before .above .ensures) at
+    (d .before .before .before .before .before .before .before .before .before .before .before .before .before .before .before .before .before .before .above .ensures) at
     (then
     (then
     (then
     (then
     (then
     (then (then
-    (c .before .before .before .before .before .before .before .before .before .before .before .before .before .before .before .before .before .before .before .before .before .before .before .before .before .before .before .before .before .before .before .put-decimal .ensures)
-    (c .before .before .before .before .before .before .before .before .before .before .before .before .before .before .before .before .before .before .before .before .before .before .before .before .before .before .before .put-if-added .ensures))
-    (c .before .before .before .before .before .before .before .before .before .before .before .before .before .before .before .before .before .before .before .before .before .before .before .put-if-added2 .ensures))
-    (c .before .before .before .before .before .before .before .before .before .before .before .before .before .before .before .before .before .before .before .put-if-added3 .ensures))
-    (c .before .before .before .before .before .before .before .before .before .before .before .before .before .before .before .put-if-added4 .ensures))
+    (d .before .before .before .before .before .before .before .before .before .before .before .before .before .before .before .before .before .put-decimal .ensures)
+    (d .before .before .before .before .before .before .before .before .before .before .before .before .before .put-if-added .ensures))
+    (d .before .before .before .before .before .before .before .before .before .put-if-added2 .ensures))
+    (d .before .before .before .before .before .put-if-added3 .ensures))
+    (d .before .put-if-added4 .ensures))
     (c .before .before .before .before .before .before .before .before .before .before .before .put-if-added5 .ensures))
     (c .before .before .before .before .before .before .before .put-if-added6 .ensures))
     (c .before .before .put .ensures))

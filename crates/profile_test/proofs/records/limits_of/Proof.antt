@@ -36,7 +36,15 @@ returns-8 : tie.Need-returns-8
 unfolding limitsOf
 returns-8 c =
     let r = c .match .rest in
-    rw (ne-eqb _ _ (r .0 .0 .0 .0 .0 .0 .1), ne-eqb _ _ (r .0 .0 .0 .0 .0 .1), ne-eqb _ _ (r .0 .0 .0 .0 .1), ne-eqb _ _ (r .0 .0 .0 .1), ne-eqb _ _ (r .0 .0 .1), ne-eqb _ _ (r .0 .1), ne-eqb _ _ (r .1))
+    rw (
+      ne-eqb _ _ (r .0 .0 .0 .0 .0 .0 .1),
+      ne-eqb _ _ (r .0 .0 .0 .0 .0 .1),
+      ne-eqb _ _ (r .0 .0 .0 .0 .1),
+      ne-eqb _ _ (r .0 .0 .0 .1),
+      ne-eqb _ _ (r .0 .0 .1),
+      ne-eqb _ _ (r .0 .1),
+      ne-eqb _ _ (r .1),
+    )
 
 pub limits-of-spec : {M : Type 1} → statement M
 limits-of-spec = tie.close (tie.spec returns returns-2 returns-3 returns-4 returns-5 returns-6 returns-7 returns-8)
