@@ -29,13 +29,18 @@ impl Asked {
             Asked::Family(call) => {
                 let added = Choice::family(call);
                 shown.push(added.as_slice().len() as u64);
-                added.as_slice().iter().for_each(|profile| show_profile(profile, shown));
+                added
+                    .as_slice()
+                    .iter()
+                    .for_each(|profile| show_profile(profile, shown));
             }
             Asked::Check(call) => match Choice::check(call) {
                 Some(profile) => show_profile(&profile, shown),
                 None => shown.push(0),
             },
-            Asked::Quartic(coefficients) => show_doubles(Choice::quartic(*coefficients).as_slice(), shown),
+            Asked::Quartic(coefficients) => {
+                show_doubles(Choice::quartic(*coefficients).as_slice(), shown)
+            }
             Asked::Block(call) => show_selection(call, shown),
         }
     }
@@ -50,14 +55,23 @@ impl Asked {
     pub fn numbers(&self) -> Vec<f64> {
         match self {
             Asked::Record(bytes, _) => {
-                let doubles = bytes.get(DOUBLES..DOUBLES + 8 * MOVE_NUMBERS).unwrap_or(&[]);
-                doubles.chunks_exact(8).map(|eight| f64::from_be_bytes(eight.try_into().expect("eight bytes"))).collect()
+                let doubles = bytes
+                    .get(DOUBLES..DOUBLES + 8 * MOVE_NUMBERS)
+                    .unwrap_or(&[]);
+                doubles
+                    .chunks_exact(8)
+                    .map(|eight| f64::from_be_bytes(eight.try_into().expect("eight bytes")))
+                    .collect()
             }
             Asked::Family(call) => call.asked.numbers().to_vec(),
             Asked::Check(call) => [&call.boundary[..], &call.t, &[call.jf], &call.bounds].concat(),
             Asked::Quartic(coefficients) => coefficients.to_vec(),
             Asked::Block(call) => {
-                let mut numbers: Vec<f64> = call.profiles.iter().flat_map(|profile| [profile.t_sum[6], profile.brake, profile.accel]).collect();
+                let mut numbers: Vec<f64> = call
+                    .profiles
+                    .iter()
+                    .flat_map(|profile| [profile.t_sum[6], profile.brake, profile.accel])
+                    .collect();
                 numbers.push(call.given.shortest);
                 numbers.extend(call.times);
                 numbers
@@ -71,10 +85,13 @@ impl Asked {
         match &mut changed {
             Asked::Record(bytes, _) => {
                 for (place, number) in numbers.iter().enumerate() {
-                    bytes[DOUBLES + 8 * place..DOUBLES + 8 * place + 8].copy_from_slice(&number.to_be_bytes());
+                    bytes[DOUBLES + 8 * place..DOUBLES + 8 * place + 8]
+                        .copy_from_slice(&number.to_be_bytes());
                 }
             }
-            Asked::Family(call) => call.asked = Move::from_numbers(std::array::from_fn(|place| numbers[place])),
+            Asked::Family(call) => {
+                call.asked = Move::from_numbers(std::array::from_fn(|place| numbers[place]))
+            }
             Asked::Check(call) => {
                 call.boundary.copy_from_slice(&numbers[..6]);
                 call.t.copy_from_slice(&numbers[6..13]);
@@ -84,7 +101,8 @@ impl Asked {
             Asked::Quartic(coefficients) => coefficients.copy_from_slice(numbers),
             Asked::Block(call) => {
                 for (profile, numbers) in call.profiles.iter_mut().zip(numbers.chunks(3)) {
-                    (profile.t_sum[6], profile.brake, profile.accel) = (numbers[0], numbers[1], numbers[2]);
+                    (profile.t_sum[6], profile.brake, profile.accel) =
+                        (numbers[0], numbers[1], numbers[2]);
                 }
                 call.given.shortest = numbers[18];
                 call.times.copy_from_slice(&numbers[19..]);
@@ -99,7 +117,9 @@ impl Asked {
         if numbers.len() != MOVE_NUMBERS {
             return self.clone();
         }
-        let asked = special::turned(&Move::from_numbers(std::array::from_fn(|place| numbers[place])));
+        let asked = special::turned(&Move::from_numbers(std::array::from_fn(|place| {
+            numbers[place]
+        })));
         let mut turned = self.with_numbers(&asked.numbers());
         if let Asked::Family(call) = &mut turned {
             call.opposite ^= true;
@@ -146,16 +166,39 @@ fn show_reply(mut bytes: &[u8], full: bool, shown: &mut Shown) {
 }
 
 fn show_doubles(numbers: &[f64], shown: &mut Shown) {
-    let bits = |number: &f64| if number.is_nan() { u64::MAX } else { number.to_bits() };
+    let bits = |number: &f64| {
+        if number.is_nan() {
+            u64::MAX
+        } else {
+            number.to_bits()
+        }
+    };
     shown.extend(numbers.iter().map(bits));
 }
 
 fn show_profile(profile: &Profile, shown: &mut Shown) {
-    shown.extend([profile.direction, profile.limits, profile.control_signs].map(|name| name as u64));
-    for numbers in [&profile.t[..], &profile.t_sum, &profile.j, &profile.a, &profile.v, &profile.p] {
+    shown
+        .extend([profile.direction, profile.limits, profile.control_signs].map(|name| name as u64));
+    for numbers in [
+        &profile.t[..],
+        &profile.t_sum,
+        &profile.j,
+        &profile.a,
+        &profile.v,
+        &profile.p,
+    ] {
         show_doubles(numbers, shown);
     }
-    show_doubles(&[profile.pf, profile.vf, profile.af, profile.brake, profile.accel], shown);
+    show_doubles(
+        &[
+            profile.pf,
+            profile.vf,
+            profile.af,
+            profile.brake,
+            profile.accel,
+        ],
+        shown,
+    );
 }
 
 fn show_stretch(stretch: &Stretch, shown: &mut Shown) {
@@ -180,7 +223,11 @@ fn show_full_plan(plan: &Plan, shown: &mut Shown) {
 fn show_short_plan(plan: &Plan, shown: &mut Shown) {
     show_doubles(&[plan.shortest], shown);
     shown.extend([plan.profile.direction, plan.profile.limits].map(|name| name as u64));
-    for ends in plan.stretches.iter().filter_map(|(stretch, _)| stretch.ends()) {
+    for ends in plan
+        .stretches
+        .iter()
+        .filter_map(|(stretch, _)| stretch.ends())
+    {
         show_doubles(&ends, shown);
     }
 }
@@ -198,9 +245,12 @@ fn show_selection(call: &BlockCall, shown: &mut Shown) {
         Err(number) => shown.push(u64::from(*number)),
     }
     for plan in [selected.unwrap_or(Plan::EMPTY), call.given] {
-        shown.extend(call.times.map(|t| match wrapper::is_blocked::<Choice>(&plan, t) {
-            Ok(blocked) => u64::from(blocked),
-            Err(number) => u64::from(number),
-        }));
+        shown.extend(
+            call.times
+                .map(|t| match wrapper::is_blocked::<Choice>(&plan, t) {
+                    Ok(blocked) => u64::from(blocked),
+                    Err(number) => u64::from(number),
+                }),
+        );
     }
 }

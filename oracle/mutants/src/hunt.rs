@@ -28,14 +28,20 @@ pub struct Hunt<'a> {
 
 impl<'a> Hunt<'a> {
     pub fn new(seed: u64, mutants: &[Mutant], trial: &'a mut Trial, inputs: Vec<Asked>) -> Self {
-        let inputs: Vec<Asked> = inputs.into_iter().filter(|asked| !asked.numbers().is_empty()).collect();
+        let inputs: Vec<Asked> = inputs
+            .into_iter()
+            .filter(|asked| !asked.numbers().is_empty())
+            .collect();
         let borders = borders(mutants, trial.living());
         let mut hunt = Hunt {
             trial,
             found: Vec::new(),
             random: Random::new(seed),
             inputs,
-            borders: borders.into_iter().map(|first| (first, Vec::new())).collect(),
+            borders: borders
+                .into_iter()
+                .map(|first| (first, Vec::new()))
+                .collect(),
             tries: 0,
         };
         for place in 0..hunt.inputs.len() {
@@ -134,13 +140,35 @@ impl<'a> Hunt<'a> {
         match random.below(16) {
             0..4 => nudged(number, random.below(9) as i64 - 4),
             4 => random.pick(&[0.0, -0.0]),
-            5 => random.pick(&[eps, -eps, 2.0 * eps, eps / 2.0, -eps / 2.0, 1.5 * eps, 0.75 * eps, 1e-12, 1e-9, 1e-8, 1e-10]),
+            5 => random.pick(&[
+                eps,
+                -eps,
+                2.0 * eps,
+                eps / 2.0,
+                -eps / 2.0,
+                1.5 * eps,
+                0.75 * eps,
+                1e-12,
+                1e-9,
+                1e-8,
+                1e-10,
+            ]),
             6 => nudged(random.pick(&[eps, -eps]), random.below(3) as i64 - 1),
             7 => other,
             8 => -other,
             9 => -number,
             10 => number * random.pick(&[2.0, 0.5, 3.0, 0.25, 1.5]),
-            11 => random.pick(&[f64::NAN, f64::INFINITY, f64::NEG_INFINITY, 1e300, 1e-300, 1e150, 1e-150, 1e100, 1e-100]),
+            11 => random.pick(&[
+                f64::NAN,
+                f64::INFINITY,
+                f64::NEG_INFINITY,
+                1e300,
+                1e-300,
+                1e150,
+                1e-150,
+                1e100,
+                1e-100,
+            ]),
             12 => (random.below(33) as f64 - 16.0) / 4.0,
             13 => number + random.signed_unit() * random.size(-52, 0),
             14 => random.size(-200, 200) * random.pick(&[1.0, -1.0]),
@@ -171,8 +199,15 @@ impl<'a> Hunt<'a> {
         if kept.is_empty() {
             return;
         }
-        let (first, asked) = (*first, kept[self.random.below(kept.len() as u64) as usize].clone());
-        let asked = if self.random.one_in(2) { self.with_changes(&asked) } else { asked };
+        let (first, asked) = (
+            *first,
+            kept[self.random.below(kept.len() as u64) as usize].clone(),
+        );
+        let asked = if self.random.one_in(2) {
+            self.with_changes(&asked)
+        } else {
+            asked
+        };
         let place = self.random.below(asked.numbers().len() as u64) as usize;
         if let Some((inside, outside)) = self.bracket(&asked, first, place) {
             let ends = bisect(&asked, first, place, inside, outside);
@@ -252,13 +287,26 @@ fn bisect(asked: &Asked, first: usize, place: usize, mut one: f64, mut other: f6
 fn borders(mutants: &[Mutant], living: &[usize]) -> Vec<usize> {
     let is_first = |number: usize| {
         let change = &mutants[number].change;
-        mutants[number].kind == "comparison" && [": < as <=", ": <= as <", ": > as >=", ": >= as >"].iter().any(|ending| change.ends_with(ending))
+        mutants[number].kind == "comparison"
+            && [": < as <=", ": <= as <", ": > as >=", ": >= as >"]
+                .iter()
+                .any(|ending| change.ends_with(ending))
     };
-    let firsts: Vec<usize> = (0..mutants.len()).filter(|&number| is_first(number)).collect();
+    let firsts: Vec<usize> = (0..mutants.len())
+        .filter(|&number| is_first(number))
+        .collect();
     let mut found = Vec::new();
     for first in firsts {
-        let Mutant { file, line, function, .. } = &mutants[first];
-        let near = living.iter().map(|&number| &mutants[number]).filter(|other| other.file == *file && other.function == *function);
+        let Mutant {
+            file,
+            line,
+            function,
+            ..
+        } = &mutants[first];
+        let near = living
+            .iter()
+            .map(|&number| &mutants[number])
+            .filter(|other| other.file == *file && other.function == *function);
         let lines: Vec<usize> = near.map(|other| other.line).collect();
         let weight = usize::from(!lines.is_empty()) + 4 * usize::from(lines.contains(line));
         found.extend(std::iter::repeat_n(first, weight));

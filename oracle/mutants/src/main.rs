@@ -11,7 +11,9 @@ mod trial;
 
 // The mutated files name these by where they come from.
 #[allow(unused_imports)]
-use answers::{BlockCall, BufferCall, Check, FamilyCall, Limits, Move, Plan, Profile, Step1, Stretch};
+use answers::{
+    BlockCall, BufferCall, Check, FamilyCall, Limits, Move, Plan, Profile, Step1, Stretch,
+};
 #[allow(unused_imports)]
 use programs::command;
 
@@ -40,7 +42,9 @@ fn main() -> ExitCode {
     let done = match &words[..] {
         ["report", crates, pins] => return report(&mutants, crates, pins),
         ["hunt", crates, pins, seed, seconds] => match (seed.parse(), seconds.parse()) {
-            (Ok(seed), Ok(seconds)) => hunt(&mutants, crates, pins, seed, Duration::from_secs(seconds)),
+            (Ok(seed), Ok(seconds)) => {
+                hunt(&mutants, crates, pins, seed, Duration::from_secs(seconds))
+            }
             _ => return usage(),
         },
         ["reduce", crates, pins] => reduce(&mutants, crates, pins),
@@ -80,7 +84,12 @@ fn report(mutants: &[Mutant], crates: &str, pins: &str) -> ExitCode {
         counts.push(format!("{program} {}", inputs.len()));
     }
     let living = table::explained(mutants, now.living());
-    println!("{}", include_str!("../report.md").replace("INPUTS", &counts.join(", ")).trim_end());
+    println!(
+        "{}",
+        include_str!("../report.md")
+            .replace("INPUTS", &counts.join(", "))
+            .trim_end()
+    );
     println!();
     table::print(mutants, before.living(), &living);
     println!("\n## Unobservable: no input can tell them apart");
@@ -110,12 +119,20 @@ fn pinned(pins: &[Asked]) -> impl Fn(&Asked) -> bool {
 /// Stored inputs that are no pins.
 fn unpinned(crates: &str, pins: &[Asked]) -> Vec<Asked> {
     let is_pin = pinned(pins);
-    let all = stored::inputs(Path::new(crates)).into_iter().flat_map(|(_, asked)| asked);
+    let all = stored::inputs(Path::new(crates))
+        .into_iter()
+        .flat_map(|(_, asked)| asked);
     all.filter(|asked| !is_pin(asked)).collect()
 }
 
 /// Adds to the pins what a search of so long finds.
-fn hunt(mutants: &[Mutant], crates: &str, pins: &str, seed: u64, limit: Duration) -> io::Result<()> {
+fn hunt(
+    mutants: &[Mutant],
+    crates: &str,
+    pins: &str,
+    seed: u64,
+    limit: Duration,
+) -> io::Result<()> {
     let mut known = pins::read(Path::new(pins));
     let mut inputs = unpinned(crates, &known);
     inputs.extend(known.iter().cloned());
@@ -136,16 +153,27 @@ fn hunt(mutants: &[Mutant], crates: &str, pins: &str, seed: u64, limit: Duration
 fn reduce(mutants: &[Mutant], crates: &str, pins: &str) -> io::Result<()> {
     let known = pins::read(Path::new(pins));
     let mut trial = Trial::new(mutants.len());
-    unpinned(crates, &known).iter().for_each(|asked| trial.put(asked));
-    let mut told: Vec<Vec<usize>> = known.iter().map(|pin| trial.all_told_apart_by(pin)).collect();
+    unpinned(crates, &known)
+        .iter()
+        .for_each(|asked| trial.put(asked));
+    let mut told: Vec<Vec<usize>> = known
+        .iter()
+        .map(|pin| trial.all_told_apart_by(pin))
+        .collect();
     let mut kept = Vec::new();
-    while let Some(best) = (0..known.len()).max_by_key(|&place| (told[place].len(), usize::MAX - place)) {
+    while let Some(best) =
+        (0..known.len()).max_by_key(|&place| (told[place].len(), usize::MAX - place))
+    {
         if told[best].is_empty() {
             break;
         }
         let apart = told[best].clone();
-        told.iter_mut().for_each(|told| told.retain(|mutant| !apart.contains(mutant)));
-        let names: Vec<String> = apart.iter().map(|&number| table::name(&mutants[number])).collect();
+        told.iter_mut()
+            .for_each(|told| told.retain(|mutant| !apart.contains(mutant)));
+        let names: Vec<String> = apart
+            .iter()
+            .map(|&number| table::name(&mutants[number]))
+            .collect();
         kept.push((known[best].clone(), names.join("; ")));
     }
     println!("{} of {} pins kept", kept.len(), known.len());

@@ -41,7 +41,10 @@ pub fn write(folder: &Path, pins: &[(Asked, String)]) -> io::Result<()> {
     let mut lines: BTreeMap<&str, Vec<String>> = BTreeMap::new();
     for (pin, reason) in pins {
         let (name, bytes) = file_and_bytes(pin);
-        lines.entry(name).or_default().push(format!("{} # {reason}\n", in_digits(&bytes)));
+        lines
+            .entry(name)
+            .or_default()
+            .push(format!("{} # {reason}\n", in_digits(&bytes)));
     }
     fs::create_dir_all(folder)?;
     for (name, lines) in lines {
@@ -52,7 +55,10 @@ pub fn write(folder: &Path, pins: &[(Asked, String)]) -> io::Result<()> {
 
 /// Doubles as sixteen digits each, one space apart; what is left as it is.
 fn in_digits(bytes: &[u8]) -> String {
-    let groups: Vec<String> = bytes.chunks(8).map(|group| group.iter().map(|byte| format!("{byte:02X}")).collect()).collect();
+    let groups: Vec<String> = bytes
+        .chunks(8)
+        .map(|group| group.iter().map(|byte| format!("{byte:02X}")).collect())
+        .collect();
     groups.join(" ")
 }
 
@@ -60,19 +66,31 @@ fn in_digits(bytes: &[u8]) -> String {
 pub fn read(folder: &Path) -> Vec<Asked> {
     let bytes = |name: &str| -> Vec<Vec<u8>> {
         let text = fs::read_to_string(folder.join(format!("{name}.txt"))).unwrap_or_default();
-        text.lines().map(|line| from_digits(line.split('#').next().unwrap_or(""))).collect()
+        text.lines()
+            .map(|line| from_digits(line.split('#').next().unwrap_or("")))
+            .collect()
     };
     let mut found = Vec::new();
     for numbers in bytes("moves") {
         found.push(Asked::Record([&[0, 105, 1], &numbers[..]].concat(), true));
     }
     for name in ["families", "checks", "quartics", "blocks"] {
-        found.extend(bytes(name).iter().map(|bytes| crate::stored::record_of(name, bytes)));
+        found.extend(
+            bytes(name)
+                .iter()
+                .map(|bytes| crate::stored::record_of(name, bytes)),
+        );
     }
     found
 }
 
 fn from_digits(text: &str) -> Vec<u8> {
-    let digits: Vec<u32> = text.chars().filter_map(|digit| digit.to_digit(16)).collect();
-    digits.chunks_exact(2).map(|pair| (16 * pair[0] + pair[1]) as u8).collect()
+    let digits: Vec<u32> = text
+        .chars()
+        .filter_map(|digit| digit.to_digit(16))
+        .collect();
+    digits
+        .chunks_exact(2)
+        .map(|pair| (16 * pair[0] + pair[1]) as u8)
+        .collect()
 }

@@ -38,13 +38,17 @@ fn stand_in_a_row(words: &[&str], name: &str) -> bool {
 }
 
 pub fn all() -> Vec<Reason> {
-    let paragraphs = TEXT.split("\n\n").filter(|paragraph| !paragraph.starts_with('#'));
+    let paragraphs = TEXT
+        .split("\n\n")
+        .filter(|paragraph| !paragraph.starts_with('#'));
     paragraphs.filter_map(of_paragraph).collect()
 }
 
 fn of_paragraph(paragraph: &'static str) -> Option<Reason> {
     let mut lines = paragraph.lines().filter(|line| !line.is_empty());
     let text = lines.next()?;
-    let names = lines.map(|line| line.trim().split(" & ").collect()).collect();
+    let names = lines
+        .map(|line| line.trim().split(" & ").collect())
+        .collect();
     Some(Reason { text, names })
 }

@@ -3,8 +3,8 @@
 
 use crate::asked::Asked;
 use answers::{Check, FamilyCall, Limits, Move};
-use programs::generators::{checks, moves};
 use programs::generators::motion::{State, JERK_SIGNS};
+use programs::generators::{checks, moves};
 use programs::random::{nudged, power_of_two, Random};
 use programs::records::write_move;
 
@@ -44,16 +44,37 @@ fn family_call(random: &mut Random, asked: Move) -> Asked {
     let zero = asked.limits.j_max == 0.0;
     Asked::Family(FamilyCall {
         asked,
-        family: if zero { 7 } else { random.pick(&[0, 1, 2, 2, 2, 2, 3, 4, 5, 6]) },
+        family: if zero {
+            7
+        } else {
+            random.pick(&[0, 1, 2, 2, 2, 2, 3, 4, 5, 6])
+        },
         opposite: random.one_in(2),
         return_after_found: random.one_in(2),
-        counted: if random.one_in(8) { random.below(6) as usize } else { 0 },
+        counted: if random.one_in(8) {
+            random.below(6) as usize
+        } else {
+            0
+        },
     })
 }
 
 /// Numbers at and beside the thresholds.
 fn at_thresholds(random: &mut Random) -> Move {
-    let small = [0.0, -0.0, EPS, -EPS, EPS / 2.0, 2.0 * EPS, 1.5 * EPS, -1.5 * EPS, 0.75 * EPS, 1e-8, 1e-10, 1e-12];
+    let small = [
+        0.0,
+        -0.0,
+        EPS,
+        -EPS,
+        EPS / 2.0,
+        2.0 * EPS,
+        1.5 * EPS,
+        -1.5 * EPS,
+        0.75 * EPS,
+        1e-8,
+        1e-10,
+        1e-12,
+    ];
     let mut numbers = [0.0; 13];
     for number in &mut numbers[..6] {
         *number = match random.below(4) {
@@ -90,12 +111,16 @@ fn too_small(random: &mut Random) -> Move {
     };
     if random.one_in(3) {
         // Just too fast for the families that speed up first.
-        asked.v0 = random.pick(&[asked.limits.v_max, asked.limits.v_min]) * random.pick(&[1.0 + 1e-13, 1.0 + EPS, 1.5, 2.0]);
+        asked.v0 = random.pick(&[asked.limits.v_max, asked.limits.v_min])
+            * random.pick(&[1.0 + 1e-13, 1.0 + EPS, 1.5, 2.0]);
     }
     if random.one_in(4) {
         asked.a0 = random.pick(&[0.0, asked.limits.a_max, asked.limits.a_min]);
     }
-    let (length, time) = (-(random.below(45) as i64) - 20, random.pick(&[0, 0, 0, 3, -3, 6, -6]));
+    let (length, time) = (
+        -(random.below(45) as i64) - 20,
+        random.pick(&[0, 0, 0, 3, -3, 6, -6]),
+    );
     scaled(&asked, length, time)
 }
 
@@ -132,7 +157,10 @@ fn too_fast(random: &mut Random) -> Move {
     }
     if random.one_in(2) {
         let root = (speed * j_max).sqrt();
-        (asked.limits.a_max, asked.limits.a_min) = (root * random.between(0.1, 2.0), -root * random.between(0.1, 2.0));
+        (asked.limits.a_max, asked.limits.a_min) = (
+            root * random.between(0.1, 2.0),
+            -root * random.between(0.1, 2.0),
+        );
     }
     if random.one_in(2) {
         asked = turned(&asked);
@@ -243,14 +271,18 @@ fn by_its_quartic(random: &mut Random) -> Asked {
     let times = [
         random.pick(&[0.0, 0.5, 1.0, 0.25]),
         random.pick(&[0.25, 0.5, 1.0, 2.0]),
-        t_min.max(0.0) + random.pick(&[0.0, 0.125, 0.25, 0.5, 0.75, 1.0]) + random.pick(&[0.0, further]),
+        t_min.max(0.0)
+            + random.pick(&[0.0, 0.125, 0.25, 0.5, 0.75, 1.0])
+            + random.pick(&[0.0, further]),
     ];
     let start = State {
         p: 0.0,
         v: 0.0,
         a: a_max - j * times[0],
     };
-    let rows = [0, 1, 2].into_iter().fold(start, |row, i| row.after(times[i], [j, 0.0, -j][i]));
+    let rows = [0, 1, 2]
+        .into_iter()
+        .fold(start, |row, i| row.after(times[i], [j, 0.0, -j][i]));
     let end = rows.after(times[2] - t_min, j);
     let mut asked = Move {
         p0: 0.0,
@@ -319,7 +351,9 @@ fn check(random: &mut Random) -> Check {
     match random.below(6) {
         0 => {
             let zeros = random.bits();
-            (0..7).filter(|phase| zeros >> phase & 1 == 1).for_each(|phase| check.t[phase] = 0.0);
+            (0..7)
+                .filter(|phase| zeros >> phase & 1 == 1)
+                .for_each(|phase| check.t[phase] = 0.0);
         }
         1 | 2 => tiny(random, &mut check),
         3 => huge(random, &mut check),
@@ -329,7 +363,10 @@ fn check(random: &mut Random) -> Check {
             check.boundary = rest;
             check.limits = 7;
             let place = 3 + random.below(3) as usize;
-            check.boundary[place] = nudged(random.pick(&[1e-8, -1e-8, 1e-10, -1e-10]), random.pick(&[0, 1, -1]));
+            check.boundary[place] = nudged(
+                random.pick(&[1e-8, -1e-8, 1e-10, -1e-10]),
+                random.pick(&[0, 1, -1]),
+            );
             return check;
         }
         _ => (),
@@ -340,7 +377,11 @@ fn check(random: &mut Random) -> Check {
         let row = rows[random.below(8) as usize];
         let down = check.bounds[0] <= 0.0;
         let upper = random.one_in(2);
-        let (pair, number) = if random.one_in(4) { (2, row.a) } else { (0, row.v) };
+        let (pair, number) = if random.one_in(4) {
+            (2, row.a)
+        } else {
+            (0, row.v)
+        };
         let bound = number + if upper { -1e-12 } else { 1e-12 };
         check.bounds[pair + usize::from(upper == down)] = nudged(bound, random.below(9) as i64 - 4);
     }
@@ -353,7 +394,11 @@ fn tiny(random: &mut Random, check: &mut Check) {
     check.boundary[2] = random.signed_unit() * random.size(-28, -24);
     check.limits = random.pick(&[7, 7, 7, 3, 2]);
     for t in &mut check.t {
-        *t = if random.one_in(3) { 0.0 } else { random.unit() * random.size(-28, -24) / check.jf.abs() };
+        *t = if random.one_in(3) {
+            0.0
+        } else {
+            random.unit() * random.size(-28, -24) / check.jf.abs()
+        };
     }
     if random.one_in(2) {
         check.t[1] = random.unit();
@@ -370,7 +415,11 @@ fn huge(random: &mut Random, check: &mut Check) {
     check.limits = random.pick(&[7, 7, 3]);
     check.boundary[2] = random.signed_unit() * size;
     for t in &mut check.t {
-        *t = if random.one_in(2) { 0.0 } else { 2.0 * random.unit() * size / jerk.abs() };
+        *t = if random.one_in(2) {
+            0.0
+        } else {
+            2.0 * random.unit() * size / jerk.abs()
+        };
     }
     let up = check.bounds[0].signum();
     check.bounds[2] = up * 1e300;
@@ -395,8 +444,17 @@ fn quartic(random: &mut Random) -> [f64; 4] {
         // A root and its double.
         _ => ((-r - p, r * p), (-r - q, r * q)),
     };
-    let mut f = [one.0 + two.0, one.1 + two.1 + one.0 * two.0, one.0 * two.1 + two.0 * one.1, one.1 * two.1];
-    let scale = if random.one_in(2) { 1.0 } else { power_of_two(random.below(40) as i64 - 28) };
+    let mut f = [
+        one.0 + two.0,
+        one.1 + two.1 + one.0 * two.0,
+        one.0 * two.1 + two.0 * one.1,
+        one.1 * two.1,
+    ];
+    let scale = if random.one_in(2) {
+        1.0
+    } else {
+        power_of_two(random.below(40) as i64 - 28)
+    };
     for (place, number) in f.iter_mut().enumerate() {
         for _ in 0..=place {
             *number *= scale;

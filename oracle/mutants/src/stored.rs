@@ -11,14 +11,33 @@ const MOVE_SIZE: usize = 107;
 /// The inputs of every test program whose crate lies in the folder, by the crate's name.
 pub fn inputs(crates: &Path) -> Vec<(&'static str, Vec<Asked>)> {
     let programs: [(&'static str, fn(&[u8]) -> Vec<Asked>); 7] = [
-        ("roots_test", |bytes| all(bytes, |input, number| Ok(records::read_doubles(input, number)?.map(Asked::Quartic)))),
-        ("profile_test", |bytes| all(bytes, |input, number| Ok(records::read_check(input, number)?.map(Asked::Check)))),
-        ("families_test", |bytes| all(bytes, |input, number| Ok(records::read_family_call(input, number)?.map(Asked::Family)))),
-        ("block_test", |bytes| all(bytes, |input, number| Ok(records::read_block_call(input, number)?.map(Asked::Block)))),
+        ("roots_test", |bytes| {
+            all(bytes, |input, number| {
+                Ok(records::read_doubles(input, number)?.map(Asked::Quartic))
+            })
+        }),
+        ("profile_test", |bytes| {
+            all(bytes, |input, number| {
+                Ok(records::read_check(input, number)?.map(Asked::Check))
+            })
+        }),
+        ("families_test", |bytes| {
+            all(bytes, |input, number| {
+                Ok(records::read_family_call(input, number)?.map(Asked::Family))
+            })
+        }),
+        ("block_test", |bytes| {
+            all(bytes, |input, number| {
+                Ok(records::read_block_call(input, number)?.map(Asked::Block))
+            })
+        }),
         ("plan_full", |bytes| moves(bytes, true)),
         ("plan_moves", |bytes| moves(bytes, false)),
         ("replies_test", |bytes| {
-            all(bytes, |input, number| Ok(records::read_rest_of_input(input, number)?.map(|rest| Asked::Record(rest, false))))
+            all(bytes, |input, number| {
+                Ok(records::read_rest_of_input(input, number)?
+                    .map(|rest| Asked::Record(rest, false)))
+            })
         }),
     ];
     let mut found = Vec::new();
@@ -39,7 +58,9 @@ pub fn record_of(name: &str, bytes: &[u8]) -> Asked {
         "families" => records::read_family_call(&mut input, 1).map(|read| read.map(Asked::Family)),
         _ => records::read_block_call(&mut input, 1).map(|read| read.map(Asked::Block)),
     };
-    read.ok().flatten().unwrap_or_else(|| panic!("a pin of {name} isn't a whole record"))
+    read.ok()
+        .flatten()
+        .unwrap_or_else(|| panic!("a pin of {name} isn't a whole record"))
 }
 
 /// Every record, by a reader of one.
@@ -56,5 +77,8 @@ fn all(
 
 /// Every move; the last record is cut.
 fn moves(bytes: &[u8], full: bool) -> Vec<Asked> {
-    bytes.chunks(MOVE_SIZE).map(|record| Asked::Record(record.to_vec(), full)).collect()
+    bytes
+        .chunks(MOVE_SIZE)
+        .map(|record| Asked::Record(record.to_vec(), full))
+        .collect()
 }

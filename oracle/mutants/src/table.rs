@@ -23,11 +23,17 @@ pub struct Living<'a> {
 }
 
 pub fn explained<'a>(mutants: &'a [Mutant], living: &[usize]) -> Living<'a> {
-    let mut by_reason: Vec<(Reason, Vec<&Mutant>)> = reasons::all().into_iter().map(|reason| (reason, Vec::new())).collect();
+    let mut by_reason: Vec<(Reason, Vec<&Mutant>)> = reasons::all()
+        .into_iter()
+        .map(|reason| (reason, Vec::new()))
+        .collect();
     let mut without = Vec::new();
     for &number in living {
         let mutant = &mutants[number];
-        match by_reason.iter_mut().find(|(reason, _)| reason.is_for(mutant)) {
+        match by_reason
+            .iter_mut()
+            .find(|(reason, _)| reason.is_for(mutant))
+        {
             Some((_, list)) => list.push(mutant),
             None => without.push(mutant),
         }
@@ -59,18 +65,31 @@ pub fn print(mutants: &[Mutant], before: &[usize], living: &Living) {
     let mut sums = [0; 4];
     for ((file, kind), row) in rows {
         let [before, killed, unobservable, not_found] = row;
-        println!("| {file} | {kind} | {} | {before} | {killed} | {unobservable} | {not_found} |", killed + unobservable + not_found);
-        sums.iter_mut().zip(row).for_each(|(sum, count)| *sum += count);
+        println!(
+            "| {file} | {kind} | {} | {before} | {killed} | {unobservable} | {not_found} |",
+            killed + unobservable + not_found
+        );
+        sums.iter_mut()
+            .zip(row)
+            .for_each(|(sum, count)| *sum += count);
     }
     let [before, killed, unobservable, not_found] = sums;
-    println!("| all | | {} | {before} | {killed} | {unobservable} | {not_found} |", killed + unobservable + not_found);
+    println!(
+        "| all | | {} | {before} | {killed} | {unobservable} | {not_found} |",
+        killed + unobservable + not_found
+    );
 }
 
 /// Every reason with the mutants that it is for; `proof` tells which reasons.
 pub fn print_reasons(living: &Living, proof: bool) {
-    for (reason, list) in living.by_reason.iter().filter(|(reason, list)| reason.is_proof() == proof && !list.is_empty()) {
+    for (reason, list) in living
+        .by_reason
+        .iter()
+        .filter(|(reason, list)| reason.is_proof() == proof && !list.is_empty())
+    {
         println!("\n{}\n", reason.text);
-        list.iter().for_each(|mutant| println!("- {}", in_code(mutant)));
+        list.iter()
+            .for_each(|mutant| println!("- {}", in_code(mutant)));
     }
 }
 

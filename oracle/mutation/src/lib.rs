@@ -11,7 +11,7 @@ pub mod tree;
 
 pub use render::Mutant;
 
-use by_hand::{Slip, SLIPS};
+use by_hand::{slips, Slip};
 use parse::Parser;
 use render::Renderer;
 use std::collections::BTreeMap;
@@ -35,7 +35,12 @@ const FUNCTIONS: [(&str, &[(&str, usize)]); 6] = [
     ),
     (
         "profile.rs",
-        &[("check", 0), ("check_with_timing", 0), ("set_boundary_from_profile", 0), ("set_boundary", 0)],
+        &[
+            ("check", 0),
+            ("check_with_timing", 0),
+            ("set_boundary_from_profile", 0),
+            ("set_boundary", 0),
+        ],
     ),
     (
         "block.rs",
@@ -66,7 +71,13 @@ const FUNCTIONS: [(&str, &[(&str, usize)]); 6] = [
     ),
     (
         "wrapper.rs",
-        &[("plan", 0), ("refused_before_planning", 0), ("number_of_no", 0), ("select", 0), ("is_blocked", 0)],
+        &[
+            ("plan", 0),
+            ("refused_before_planning", 0),
+            ("number_of_no", 0),
+            ("select", 0),
+            ("is_blocked", 0),
+        ],
     ),
     ("records.rs", &[("read_move", 0)]),
 ];
@@ -81,7 +92,10 @@ pub struct Mutated {
 pub fn write_into_build_folder() {
     let mutated = of_the_oracle();
     for folder in ["answers/src", "programs/src", "patches", "../docs/src"] {
-        println!("cargo:rerun-if-changed={}", patched_source::oracle_folder().join(folder).display());
+        println!(
+            "cargo:rerun-if-changed={}",
+            patched_source::oracle_folder().join(folder).display()
+        );
     }
     let out = PathBuf::from(env::var("OUT_DIR").expect("cargo sets OUT_DIR"));
     for (name, text) in &mutated.texts {
@@ -98,33 +112,57 @@ pub fn mutants() -> Vec<Mutant> {
 pub fn of_the_oracle() -> Mutated {
     let oracle = patched_source::oracle_folder();
     let sources = oracle.join("../docs/src/lib/src/rsruckig");
-    let own = [oracle.join("answers/src/wrapper.rs"), oracle.join("programs/src/records.rs")];
+    let own = [
+        oracle.join("answers/src/wrapper.rs"),
+        oracle.join("programs/src/records.rs"),
+    ];
     let patched = patched_source::patched(&sources, &oracle.join("patches"));
     let mut texts = patched.unwrap_or_else(|message| panic!("{message}"));
     for path in &own {
-        texts.insert(name_of(path), fs::read_to_string(path).unwrap_or_else(|error| panic!("{error}")));
+        texts.insert(
+            name_of(path),
+            fs::read_to_string(path).unwrap_or_else(|error| panic!("{error}")),
+        );
     }
     of_texts(texts)
 }
 
 fn name_of(path: &Path) -> String {
-    path.file_name().expect("a file").to_string_lossy().into_owned()
+    path.file_name()
+        .expect("a file")
+        .to_string_lossy()
+        .into_owned()
 }
 
 fn of_texts(mut texts: BTreeMap<String, String>) -> Mutated {
     let mut mutants = Vec::new();
     for (file, functions) in FUNCTIONS {
-        let text = texts.remove(file).unwrap_or_else(|| panic!("{file} is missing"));
+        let text = texts
+            .remove(file)
+            .unwrap_or_else(|| panic!("{file} is missing"));
         let written = mutate_file(file, &text, functions, &mut mutants);
         // Inlining everywhere would make the build long, and changes nothing.
-        texts.insert(file.to_string(), written.replace("#[inline(always)]", "").replace("#[inline]", ""));
+        texts.insert(
+            file.to_string(),
+            written
+                .replace("#[inline(always)]", "")
+                .replace("#[inline]", ""),
+        );
     }
     Mutated { texts, mutants }
 }
 
-fn mutate_file(file: &str, text: &str, functions: &[(&str, usize)], mutants: &mut Vec<Mutant>) -> String {
+fn mutate_file(
+    file: &str,
+    text: &str,
+    functions: &[(&str, usize)],
+    mutants: &mut Vec<Mutant>,
+) -> String {
     let tokens = tokens(text);
-    let mut found: Vec<Function> = functions.iter().map(|&(name, nth)| Function::find(&tokens, name, nth)).collect();
+    let mut found: Vec<Function> = functions
+        .iter()
+        .map(|&(name, nth)| Function::find(&tokens, name, nth))
+        .collect();
     found.sort_by_key(|function| function.start);
     let mut written = String::new();
     let mut done = 0;
@@ -150,10 +188,16 @@ impl Function {
     fn find(tokens: &[Token], name: &str, nth: usize) -> Function {
         let is_it = |pair: &[Token]| pair[0].text == "fn" && pair[1].text == name;
         let mut places = (0..tokens.len() - 1).filter(|&place| is_it(&tokens[place..place + 2]));
-        let place = places.nth(nth).unwrap_or_else(|| panic!("no function {name} number {nth}"));
-        let open = (place..).find(|&at| tokens[at].text == "(").expect("parameters");
+        let place = places
+            .nth(nth)
+            .unwrap_or_else(|| panic!("no function {name} number {nth}"));
+        let open = (place..)
+            .find(|&at| tokens[at].text == "(")
+            .expect("parameters");
         let close = matching(tokens, open);
-        let body = (close..).find(|&at| tokens[at].text == "{").expect("a body");
+        let body = (close..)
+            .find(|&at| tokens[at].text == "{")
+            .expect("a body");
         Function {
             name: name.to_string(),
             start: tokens[body].start,
@@ -180,28 +224,58 @@ fn matching(tokens: &[Token], open: usize) -> usize {
 }
 
 /// A function's body with its mutants: first those by hand, each a body of its own.
-fn mutate_function(file: &str, text: &str, tokens: &[Token], function: &Function, mutants: &mut Vec<Mutant>) -> String {
+fn mutate_function(
+    file: &str,
+    text: &str,
+    tokens: &[Token],
+    function: &Function,
+    mutants: &mut Vec<Mutant>,
+) -> String {
     let block = Parser::new(tokens, function.body).block();
     let body = Renderer::new(text, file, &function.name, mutants).block(&block);
-    let mut slips = String::new();
+    let mut by_hand = String::new();
     let original = &text[function.start..function.end];
-    for slip in SLIPS.iter().filter(|slip| slip.file == file && slip.function == function.name) {
+    let is_its = |slip: &Slip| slip.file == file && slip.function == function.name;
+    for slip in slips().into_iter().filter(is_its) {
         if let Some(changed) = slip.applied_to(original) {
-            slips += &format!("if ::mutant_switch::is_on({}) {{ return {changed}; }}\n", mutants.len());
-            mutants.push(slip_mutant(slip, text, function.start));
+            let number = mutants.len();
+            by_hand += &format!("if ::mutant_switch::is_on({number}) {{ return {changed}; }}\n");
+            mutants.push(slip_mutant(&slip, text, function.start));
         }
     }
-    body.replacen('{', &format!("{{\n{slips}"), 1)
+    body.replacen('{', &format!("{{\n{by_hand}"), 1)
 }
 
 fn slip_mutant(slip: &Slip, text: &str, start: usize) -> Mutant {
-    let place = slip.place_in(&text[start..]).unwrap_or(0);
+    let (place, _) = slip.place_in(&text[start..]).unwrap_or((0, 0));
     Mutant {
-        file: slip.file.to_string(),
-        function: slip.function.to_string(),
+        file: slip.file.clone(),
+        function: slip.function.clone(),
         line: text[..start + place].matches('\n').count() + 1,
         kind: "by hand",
-        change: slip.name.to_string(),
+        change: slip.name.clone(),
     }
 }
 
+#[cfg(test)]
+mod tests {
+    use super::{by_hand, mutants};
+
+    /// Each slip stands in one function, and there are as many other mutants as the gate was judged by.
+    #[test]
+    fn every_slip_is_a_mutant_once() {
+        let mutants = mutants();
+        let count = |name: &str| {
+            let named = mutants.iter().filter(|mutant| mutant.change == name);
+            named.filter(|mutant| mutant.kind == "by hand").count()
+        };
+        for slip in by_hand::slips() {
+            let alike = by_hand::slips()
+                .iter()
+                .filter(|other| other.name == slip.name)
+                .count();
+            assert_eq!(count(&slip.name), alike, "{slip:?}");
+        }
+        assert!(mutants.len() > 6000);
+    }
+}

@@ -65,7 +65,12 @@ impl<'a> Parser<'a> {
 
     fn expect(&mut self, text: &str) {
         let token = self.next();
-        assert!(token.text == text, "`{text}` expected at byte {}, not `{}`", token.start, token.text);
+        assert!(
+            token.text == text,
+            "`{text}` expected at byte {}, not `{}`",
+            token.start,
+            token.text
+        );
     }
 
     fn span_from(&self, start: usize) -> Span {
@@ -118,8 +123,13 @@ impl<'a> Parser<'a> {
             self.expect(";");
             return Statement::Let(pattern, first);
         }
-        let is_block_like = ["if", "match", "for", "{"].contains(&self.peek().text) || self.peek().text.starts_with('\'');
-        let expr = if is_block_like { self.primary() } else { self.expr() };
+        let is_block_like = ["if", "match", "for", "{"].contains(&self.peek().text)
+            || self.peek().text.starts_with('\'');
+        let expr = if is_block_like {
+            self.primary()
+        } else {
+            self.expr()
+        };
         let ended = self.takes(";");
         Statement::Expr(expr, ended)
     }
@@ -138,7 +148,10 @@ impl<'a> Parser<'a> {
         if ASSIGNMENTS.contains(&operator) {
             self.next();
             let value = self.expr();
-            return self.made(start, Node::Assign(operator.to_string(), Box::new(place), Box::new(value)));
+            return self.made(
+                start,
+                Node::Assign(operator.to_string(), Box::new(place), Box::new(value)),
+            );
         }
         place
     }
@@ -153,7 +166,10 @@ impl<'a> Parser<'a> {
         self.next();
         let ends = ["]", ")", "{"].contains(&self.peek().text);
         let right = (!ends).then(|| Box::new(self.binary(1)));
-        self.made(start, Node::Range(left.map(Box::new), operator.to_string(), right))
+        self.made(
+            start,
+            Node::Range(left.map(Box::new), operator.to_string(), right),
+        )
     }
 
     fn binary(&mut self, least: u8) -> Expr {
@@ -161,13 +177,19 @@ impl<'a> Parser<'a> {
         let mut left = self.unary();
         loop {
             let operator = self.peek().text;
-            let known = BINARY.into_iter().chain([REMAINDER]).find(|(known, _)| *known == operator);
+            let known = BINARY
+                .into_iter()
+                .chain([REMAINDER])
+                .find(|(known, _)| *known == operator);
             let Some((_, precedence)) = known.filter(|(_, precedence)| *precedence >= least) else {
                 return left;
             };
             self.next();
             let right = self.binary(precedence + 1);
-            left = self.made(start, Node::Binary(operator.to_string(), Box::new(left), Box::new(right)));
+            left = self.made(
+                start,
+                Node::Binary(operator.to_string(), Box::new(left), Box::new(right)),
+            );
         }
     }
 
@@ -181,7 +203,11 @@ impl<'a> Parser<'a> {
             _ => return self.postfix(),
         };
         self.next();
-        let operator = if operator == "&" && self.takes("mut") { "&mut " } else { operator };
+        let operator = if operator == "&" && self.takes("mut") {
+            "&mut "
+        } else {
+            operator
+        };
         let operand = self.unary();
         self.made(start, Node::Unary(operator, Box::new(operand)))
     }
@@ -392,9 +418,17 @@ impl<'a> Parser<'a> {
             let pattern = self.raw_until(&["=>", "if"]);
             let guard = self.takes("if").then(|| self.expr());
             self.expect("=>");
-            let body = if self.sees("{") { self.primary() } else { self.expr() };
+            let body = if self.sees("{") {
+                self.primary()
+            } else {
+                self.expr()
+            };
             self.takes(",");
-            arms.push(Arm { pattern, guard, body });
+            arms.push(Arm {
+                pattern,
+                guard,
+                body,
+            });
         }
         Node::Match(Box::new(thing), arms)
     }

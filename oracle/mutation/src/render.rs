@@ -25,7 +25,16 @@ pub struct Renderer<'a> {
 }
 
 const SWITCH: &str = "::mutant_switch::";
-const LIMITS: [&str; 8] = ["Acc0Acc1Vel", "Vel", "Acc0", "Acc1", "Acc0Acc1", "Acc0Vel", "Acc1Vel", "None"];
+const LIMITS: [&str; 8] = [
+    "Acc0Acc1Vel",
+    "Vel",
+    "Acc0",
+    "Acc1",
+    "Acc0Acc1",
+    "Acc0Vel",
+    "Acc1Vel",
+    "None",
+];
 
 impl<'a> Renderer<'a> {
     pub fn new(text: &'a str, file: &'a str, function: &str, mutants: &'a mut Vec<Mutant>) -> Self {
@@ -70,7 +79,10 @@ impl<'a> Renderer<'a> {
     /// A place whose thing, shown shortly, becomes others.
     fn place_of(&mut self, expr: &Expr, kind: &'static str, becomes: &[&str]) -> usize {
         let was = self.short(expr.span);
-        let changes: Vec<String> = becomes.iter().map(|other| format!("`{was}`: {other}")).collect();
+        let changes: Vec<String> = becomes
+            .iter()
+            .map(|other| format!("`{was}`: {other}"))
+            .collect();
         self.place(expr.span, kind, &changes)
     }
 
@@ -79,14 +91,20 @@ impl<'a> Renderer<'a> {
         let calls = exchanged_calls(block);
         for (number, statement) in block.statements.iter().enumerate() {
             let mut line = self.statement(statement);
-            for &(one, two) in calls.iter().filter(|(one, two)| *one == number || *two == number) {
+            for &(one, two) in calls
+                .iter()
+                .filter(|(one, two)| *one == number || *two == number)
+            {
                 let other = &block.statements[if one == number { two } else { one }];
                 let mutant = if one == number {
                     self.exchange(statement, other)
                 } else {
                     self.exchange_before(statement)
                 };
-                line = format!("if {SWITCH}is_on({mutant}) {{ {} }} else {{ {line} }}", self.plain(other));
+                line = format!(
+                    "if {SWITCH}is_on({mutant}) {{ {} }} else {{ {line} }}",
+                    self.plain(other)
+                );
             }
             lines.push(line);
         }
@@ -98,7 +116,11 @@ impl<'a> Renderer<'a> {
         let (Statement::Expr(first, _), Statement::Expr(second, _)) = (one, two) else {
             unreachable!("only calls are exchanged");
         };
-        let change = format!("`{}` and `{}` exchanged", self.short(first.span), self.short(second.span));
+        let change = format!(
+            "`{}` and `{}` exchanged",
+            self.short(first.span),
+            self.short(second.span)
+        );
         self.place(first.span, "order", &[change])
     }
 
@@ -108,13 +130,20 @@ impl<'a> Renderer<'a> {
             unreachable!("only calls are exchanged");
         };
         let ending = format!(" and `{}` exchanged", self.short(expr.span));
-        let found = self.mutants.iter().rposition(|mutant| mutant.kind == "order" && mutant.change.ends_with(&ending));
+        let found = self
+            .mutants
+            .iter()
+            .rposition(|mutant| mutant.kind == "order" && mutant.change.ends_with(&ending));
         found.expect("the exchange was numbered at the call before")
     }
 
     fn plain(&self, statement: &Statement) -> String {
         match statement {
-            Statement::Let(pattern, Some(first)) => format!("let {} = {};", self.source(*pattern), self.source(first.span)),
+            Statement::Let(pattern, Some(first)) => format!(
+                "let {} = {};",
+                self.source(*pattern),
+                self.source(first.span)
+            ),
             Statement::Let(pattern, None) => format!("let {};", self.source(*pattern)),
             Statement::Expr(expr, _) => format!("{};", self.source(expr.span)),
         }
@@ -127,7 +156,9 @@ impl<'a> Renderer<'a> {
                 self.declared_only.push(name.to_string());
                 self.plain(statement)
             }
-            Statement::Let(pattern, Some(first)) => format!("let {} = {};", self.source(*pattern), self.expr(first)),
+            Statement::Let(pattern, Some(first)) => {
+                format!("let {} = {};", self.source(*pattern), self.expr(first))
+            }
             Statement::Expr(expr, ended) => self.expression_statement(expr, *ended),
         }
     }
@@ -152,7 +183,12 @@ impl<'a> Renderer<'a> {
     fn assignment(&mut self, expr: &Expr, operator: &str, place: &Expr, value: &Expr) -> String {
         let new = self.expr(value);
         let to = self.expr(place);
-        if operator == "=" && self.declared_only.iter().any(|name| name == self.source(place.span)) {
+        if operator == "="
+            && self
+                .declared_only
+                .iter()
+                .any(|name| name == self.source(place.span))
+        {
             return format!("{to} = {new};");
         }
         let new = match operator {
@@ -161,7 +197,9 @@ impl<'a> Renderer<'a> {
         };
         let mutant = self.place_of(expr, "statement", &["left out"]);
         if self.source(value.span).starts_with("Some(") || self.source(value.span) == "None" {
-            return format!("{{ let new_ = {new}; if !{SWITCH}is_on({mutant}) {{ {to} = new_; }} }}");
+            return format!(
+                "{{ let new_ = {new}; if !{SWITCH}is_on({mutant}) {{ {to} = new_; }} }}"
+            );
         }
         format!("{{ let new_ = {new}; {SWITCH}assign({mutant}, &mut {to}, new_); }}")
     }
@@ -189,14 +227,32 @@ impl<'a> Renderer<'a> {
             ">=" => ("ge", "comparison", &[">= as >", ">= as <=", ">= as not <"]),
             "==" => ("eq", "comparison", &["== as !="]),
             "!=" => ("ne", "comparison", &["!= as =="]),
-            "&&" => ("and", "connective", &["&& as ||", "only the left", "only the right"]),
-            _ => ("or", "connective", &["|| as &&", "only the left", "only the right"]),
+            "&&" => (
+                "and",
+                "connective",
+                &["&& as ||", "only the left", "only the right"],
+            ),
+            _ => (
+                "or",
+                "connective",
+                &["|| as &&", "only the left", "only the right"],
+            ),
         };
         // Whole numbers are never NaN.
-        let is_whole = |side: &Expr| matches!(side.node, Node::Number) && number(self.source(side.span)).is_none();
+        let is_whole = |side: &Expr| {
+            matches!(side.node, Node::Number) && number(self.source(side.span)).is_none()
+        };
         let is_whole = is_whole(right) || self.source(right.span) == "MOST_PROFILES";
-        let becomes = if becomes.len() == 3 && kind == "comparison" && is_whole { &becomes[..2] } else { becomes };
-        let name = if becomes.len() == 2 { format!("{name}_whole") } else { name.to_string() };
+        let becomes = if becomes.len() == 3 && kind == "comparison" && is_whole {
+            &becomes[..2]
+        } else {
+            becomes
+        };
+        let name = if becomes.len() == 2 {
+            format!("{name}_whole")
+        } else {
+            name.to_string()
+        };
         let first = self.place_of(expr, kind, becomes);
         if operator == "&&" && self.source(right.span).contains("check_with_timing") {
             return format!("{SWITCH}and_then({first}, {a}, || {b})");
@@ -206,8 +262,13 @@ impl<'a> Renderer<'a> {
 
     /// The right side of an operator: a zero that something is compared with has no sign.
     fn operand(&mut self, operator: &str, right: &Expr) -> String {
-        if matches!(operator, "<" | "<=" | ">" | ">=" | "==") && number(self.source(right.span)) == Some(0.0) {
-            return self.constant(right, &["1.0".into(), "f64::EPSILON".into(), "-f64::EPSILON".into()]);
+        if matches!(operator, "<" | "<=" | ">" | ">=" | "==")
+            && number(self.source(right.span)) == Some(0.0)
+        {
+            return self.constant(
+                right,
+                &["1.0".into(), "f64::EPSILON".into(), "-f64::EPSILON".into()],
+            );
         }
         // Of a threshold the factor is changed already.
         if operator == "*" && self.source(right.span) == "f64::EPSILON" {
@@ -250,31 +311,49 @@ impl<'a> Renderer<'a> {
             Node::Unary(operator, operand) => format!("{operator}{}", self.expr(operand)),
             Node::Binary(operator, left, right) => self.binary(expr, operator, left, right),
             Node::Range(left, operator, right) => {
-                let mut end = |side: &Option<Box<Expr>>| side.as_ref().map_or(String::new(), |side| self.expr(side));
+                let mut end = |side: &Option<Box<Expr>>| {
+                    side.as_ref().map_or(String::new(), |side| self.expr(side))
+                };
                 format!("{}{operator}{}", end(left), end(right))
             }
             Node::Assign(operator, place, value) => self.assignment(expr, operator, place, value),
-            Node::If(condition, then, otherwise) => self.choice(condition, then, otherwise.as_deref()),
+            Node::If(condition, then, otherwise) => {
+                self.choice(condition, then, otherwise.as_deref())
+            }
             Node::Match(thing, arms) => {
                 let thing = self.expr(thing);
                 let mut lines = Vec::new();
                 for arm in arms {
-                    let guard = arm.guard.as_ref().map(|guard| format!(" if {}", self.expr(guard)));
+                    let guard = arm
+                        .guard
+                        .as_ref()
+                        .map(|guard| format!(" if {}", self.expr(guard)));
                     let body = self.expr(&arm.body);
-                    lines.push(format!("{}{} => {body},", self.source(arm.pattern), guard.unwrap_or_default()));
+                    lines.push(format!(
+                        "{}{} => {body},",
+                        self.source(arm.pattern),
+                        guard.unwrap_or_default()
+                    ));
                 }
                 format!("match {thing} {{\n{}\n}}", lines.join("\n"))
             }
             Node::Block(block) => self.block(block),
             Node::For(head, through, body) => {
-                format!("{} {} {}", self.source(*head), self.expr(through), self.block(body))
+                format!(
+                    "{} {} {}",
+                    self.source(*head),
+                    self.expr(through),
+                    self.block(body)
+                )
             }
             Node::Return(Some(value)) => format!("return {}", self.expr(value)),
             Node::Return(None) | Node::Leave => self.source(expr.span).to_string(),
             Node::Array(all) => format!("[{}]", self.list(all)),
             Node::Tuple(all) => format!("({})", self.list(all)),
             Node::Paren(inner) => format!("({})", self.expr(inner)),
-            Node::Closure(parameters, body) => format!("{} {}", self.source(*parameters), self.expr(body)),
+            Node::Closure(parameters, body) => {
+                format!("{} {}", self.source(*parameters), self.expr(body))
+            }
             Node::Matches(thing, names) => self.matches(expr, thing, names),
             Node::Try(inner) => format!("{}?", self.expr(inner)),
         }
@@ -287,20 +366,43 @@ impl<'a> Renderer<'a> {
             "true" => ("flag", vec!["false".into()]),
             "false" => ("flag", vec!["true".into()]),
             "f64::INFINITY" => ("constant", vec!["f64::MAX".into()]),
-            "Ordering::Equal" => ("constant", vec!["Ordering::Less".into(), "Ordering::Greater".into()]),
+            "Ordering::Equal" => (
+                "constant",
+                vec!["Ordering::Less".into(), "Ordering::Greater".into()],
+            ),
             _ if was.starts_with("ReachedLimits::") => {
-                let place = LIMITS.into_iter().position(|name| name == last).expect("a name of limits");
-                let others = [place + 1, place + 4].map(|other| format!("ReachedLimits::{}", LIMITS[other % 8]));
+                let place = LIMITS
+                    .into_iter()
+                    .position(|name| name == last)
+                    .expect("a name of limits");
+                let others = [place + 1, place + 4]
+                    .map(|other| format!("ReachedLimits::{}", LIMITS[other % 8]));
                 ("name", others.to_vec())
             }
             "ControlSigns::UDDU" => ("name", vec!["ControlSigns::UDUD".into()]),
             "Direction::UP" => ("name", vec!["Direction::DOWN".into()]),
             "Direction::DOWN" => ("name", vec!["Direction::UP".into()]),
-            "MOVE_LENGTH" => ("constant", vec!["MOVE_LENGTH + 1".into(), "MOVE_LENGTH - 1".into()]),
-            "MOVE_VERSION" => ("constant", vec!["MOVE_VERSION + 1".into(), "MOVE_VERSION - 1".into()]),
-            "MOST_PROFILES" => ("constant", vec!["MOST_PROFILES + 1".into(), "MOST_PROFILES - 1".into()]),
-            _ if last.len() > 2 && last.chars().all(|c| c.is_ascii_uppercase() || c.is_ascii_digit() || c == '_') => {
-                ("constant", vec![format!("2.0 * {was}"), format!("{was} / 2.0"), "0.0".into()])
+            "MOVE_LENGTH" => (
+                "constant",
+                vec!["MOVE_LENGTH + 1".into(), "MOVE_LENGTH - 1".into()],
+            ),
+            "MOVE_VERSION" => (
+                "constant",
+                vec!["MOVE_VERSION + 1".into(), "MOVE_VERSION - 1".into()],
+            ),
+            "MOST_PROFILES" => (
+                "constant",
+                vec!["MOST_PROFILES + 1".into(), "MOST_PROFILES - 1".into()],
+            ),
+            _ if last.len() > 2
+                && last
+                    .chars()
+                    .all(|c| c.is_ascii_uppercase() || c.is_ascii_digit() || c == '_') =>
+            {
+                (
+                    "constant",
+                    vec![format!("2.0 * {was}"), format!("{was} / 2.0"), "0.0".into()],
+                )
             }
             _ => return was.to_string(),
         };
@@ -323,10 +425,17 @@ impl<'a> Renderer<'a> {
         match (self.source(callee.span), arguments) {
             ("f64::min", [a, b]) => self.least_or_greatest(expr, "min", a, b),
             ("f64::abs" | "f64::sqrt", [operand]) => {
-                let method = self.source(callee.span).trim_start_matches("f64::").to_string();
+                let method = self
+                    .source(callee.span)
+                    .trim_start_matches("f64::")
+                    .to_string();
                 self.of_one(expr, &method, operand)
             }
-            _ => format!("{}({})", self.source(callee.span), self.arguments(expr, arguments)),
+            _ => format!(
+                "{}({})",
+                self.source(callee.span),
+                self.arguments(expr, arguments)
+            ),
         }
     }
 
@@ -334,21 +443,31 @@ impl<'a> Renderer<'a> {
         match (name, arguments) {
             ("min" | "max", [other]) => self.least_or_greatest(expr, name, of, other),
             ("abs" | "sqrt" | "cbrt", []) => self.of_one(expr, name, of),
-            _ => format!("{}.{name}({})", self.expr(of), self.arguments(expr, arguments)),
+            _ => format!(
+                "{}.{name}({})",
+                self.expr(of),
+                self.arguments(expr, arguments)
+            ),
         }
     }
 
     fn least_or_greatest(&mut self, expr: &Expr, name: &str, a: &Expr, b: &Expr) -> String {
         let (a, b) = (self.expr(a), self.expr(b));
         let other = if name == "min" { "max" } else { "min" };
-        let first = self.place_of(expr, "function", &[other, "only the first", "only the second"]);
+        let first = self.place_of(
+            expr,
+            "function",
+            &[other, "only the first", "only the second"],
+        );
         format!("{SWITCH}{name}({first}, {a}, {b})")
     }
 
     /// A function of one double, or the double itself.
     fn of_one(&mut self, expr: &Expr, name: &str, operand: &Expr) -> String {
         let operand = match (name, &without_paren(operand).node) {
-            ("abs", Node::Binary(operator, left, right)) if operator == "-" => self.distance(operand, left, right),
+            ("abs", Node::Binary(operator, left, right)) if operator == "-" => {
+                self.distance(operand, left, right)
+            }
             _ => self.expr(operand),
         };
         let left_out = format!("{name} left out");
@@ -365,15 +484,27 @@ impl<'a> Renderer<'a> {
 
     /// Arguments, where upper and lower limits can change places and a jerk its sign.
     fn arguments(&mut self, call: &Expr, arguments: &[Expr]) -> String {
-        let mut written: Vec<String> = arguments.iter().map(|argument| self.expr(argument)).collect();
-        let sources: Vec<&str> = arguments.iter().map(|argument| self.source(argument.span)).collect();
+        let mut written: Vec<String> = arguments
+            .iter()
+            .map(|argument| self.expr(argument))
+            .collect();
+        let sources: Vec<&str> = arguments
+            .iter()
+            .map(|argument| self.source(argument.span))
+            .collect();
         for (upper, lower) in [("v_max", "v_min"), ("a_max", "a_min")] {
             let place = |name: &str| sources.iter().position(|source| source.ends_with(name));
             if let (Some(one), Some(two)) = (place(upper), place(lower)) {
                 let change = format!("`{}`: {upper} and {lower} exchanged", self.short(call.span));
                 let mutant = self.place(arguments[one].span, "argument", &[change]);
-                written[one] = format!("{SWITCH}choose({mutant}, {}, [{}])", sources[one], sources[two]);
-                written[two] = format!("{SWITCH}choose({mutant}, {}, [{}])", sources[two], sources[one]);
+                written[one] = format!(
+                    "{SWITCH}choose({mutant}, {}, [{}])",
+                    sources[one], sources[two]
+                );
+                written[two] = format!(
+                    "{SWITCH}choose({mutant}, {}, [{}])",
+                    sources[two], sources[one]
+                );
             }
         }
         for (place, source) in sources.iter().enumerate() {
@@ -393,7 +524,9 @@ impl<'a> Renderer<'a> {
                 let first = self.place_of(condition, "condition", &["always", "never"]);
                 format!("{SWITCH}forced({first}, {written})")
             }
-            Condition::Let(pattern, thing) => format!("{} {}", self.source(*pattern), self.expr(thing)),
+            Condition::Let(pattern, thing) => {
+                format!("{} {}", self.source(*pattern), self.expr(thing))
+            }
         };
         let then = self.block(then);
         match otherwise {
@@ -405,18 +538,31 @@ impl<'a> Renderer<'a> {
     fn matches(&mut self, expr: &Expr, thing: &Expr, names: &[String]) -> String {
         let is_in = |place: usize| names.iter().any(|name| name == LIMITS[place]);
         let changes: Vec<String> = (0..8)
-            .map(|place| format!("set of names {} {}", if is_in(place) { "without" } else { "with" }, LIMITS[place]))
+            .map(|place| {
+                format!(
+                    "set of names {} {}",
+                    if is_in(place) { "without" } else { "with" },
+                    LIMITS[place]
+                )
+            })
             .collect();
         let first = self.place(expr.span, "name", &changes);
-        let set = (0..8).filter(|&place| is_in(place)).fold(0, |set, place| set | 1 << place);
-        format!("{SWITCH}is_in({first}, {} as usize, {set})", self.source(thing.span))
+        let set = (0..8)
+            .filter(|&place| is_in(place))
+            .fold(0, |set, place| set | 1 << place);
+        format!(
+            "{SWITCH}is_in({first}, {} as usize, {set})",
+            self.source(thing.span)
+        )
     }
 }
 
 /// The pairs of calls of families that follow each other in a block, perhaps with a question between them.
 fn exchanged_calls(block: &Block) -> Vec<(usize, usize)> {
     let is_family = |statement: &Statement| matches!(statement, Statement::Expr(Expr { node: Node::Method(_, name, _), .. }, true) if name.starts_with("time_"));
-    let calls: Vec<usize> = (0..block.statements.len()).filter(|&number| is_family(&block.statements[number])).collect();
+    let calls: Vec<usize> = (0..block.statements.len())
+        .filter(|&number| is_family(&block.statements[number]))
+        .collect();
     calls.windows(2).map(|pair| (pair[0], pair[1])).collect()
 }
 
@@ -428,19 +574,31 @@ fn without_paren(expr: &Expr) -> &Expr {
 }
 
 fn number(text: &str) -> Option<f64> {
-    text.trim_end_matches("_f64").replace('_', "").parse().ok().filter(|_| text.contains('.') || text.contains("e-"))
+    text.trim_end_matches("_f64")
+        .replace('_', "")
+        .parse()
+        .ok()
+        .filter(|_| text.contains('.') || text.contains("e-"))
 }
 
 /// What a number becomes.
 fn other_numbers(text: &str) -> Vec<String> {
     let Some(x) = number(text) else {
         let whole: u64 = text.parse().expect("a whole number");
-        return if whole == 0 { vec!["1".into()] } else { vec![(whole + 1).to_string(), (whole - 1).to_string()] };
+        return if whole == 0 {
+            vec!["1".into()]
+        } else {
+            vec![(whole + 1).to_string(), (whole - 1).to_string()]
+        };
     };
     if x == 0.0 {
         return vec!["1.0".into(), "f64::EPSILON".into(), "-0.0".into()];
     }
-    let candidates = if x < 0.1 { [2.0 * x, x / 2.0, 10.0 * x, x / 10.0, 0.0] } else { [2.0 * x, x / 2.0, x + 1.0, 0.0, x] };
+    let candidates = if x < 0.1 {
+        [2.0 * x, x / 2.0, 10.0 * x, x / 10.0, 0.0]
+    } else {
+        [2.0 * x, x / 2.0, x + 1.0, 0.0, x]
+    };
     let mut others: Vec<String> = Vec::new();
     for other in candidates {
         let text = format!("{other:?}");

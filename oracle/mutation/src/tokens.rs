@@ -25,7 +25,8 @@ impl Token<'_> {
 
 /// Marks of more than one character, the longer ones first.
 const MARKS: [&str; 17] = [
-    "..=", "&&", "||", "==", "!=", "<=", ">=", "+=", "-=", "*=", "/=", "->", "=>", "::", "..", "<<", ">>",
+    "..=", "&&", "||", "==", "!=", "<=", ">=", "+=", "-=", "*=", "/=", "->", "=>", "::", "..",
+    "<<", ">>",
 ];
 
 /// All tokens, with an end token behind them.
@@ -115,7 +116,10 @@ mod tests {
         assert_eq!(texts("0..6"), ["0", "..", "6", ""]);
         assert_eq!(texts("self.0.data"), ["self", ".", "0", ".", "data", ""]);
         assert_eq!(texts("3. * 1e-12"), ["3.", "*", "1e-12", ""]);
-        assert_eq!(texts("3.0_f64.sqrt()"), ["3.0_f64", ".", "sqrt", "(", ")", ""]);
+        assert_eq!(
+            texts("3.0_f64.sqrt()"),
+            ["3.0_f64", ".", "sqrt", "(", ")", ""]
+        );
     }
 
     #[test]

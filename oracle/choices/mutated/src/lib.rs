@@ -1,7 +1,15 @@
 //! Step 1 with document 01's functions and every mutant, each behind the switch.
 #![no_std]
 // Mutated text has its own style.
-#![allow(unused_parens, unused_assignments, unused_variables, unused_mut, non_snake_case, unreachable_code, dead_code)]
+#![allow(
+    unused_parens,
+    unused_assignments,
+    unused_variables,
+    unused_mut,
+    non_snake_case,
+    unreachable_code,
+    dead_code
+)]
 
 mod functions {
     pub use machine::sqrt;
