@@ -8,6 +8,8 @@ use programs::random::Random;
 use step1_mutated::Choice;
 
 /// One input of a test program.
+// A few ten thousand are kept at once; no box is needed.
+#[allow(clippy::large_enum_variant)]
 #[derive(Clone, Debug, PartialEq)]
 pub enum Asked {
     /// What is left of an input, to `plan_moves`, or with everything that the plan holds to `plan_full`.

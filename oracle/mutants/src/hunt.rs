@@ -64,7 +64,7 @@ impl<'a> Hunt<'a> {
                 self.put(&changed, mutants);
             }
             for _ in 0..20 {
-                self.to_a_border(mutants);
+                self.meet_a_border(mutants);
             }
         }
     }
@@ -194,7 +194,7 @@ impl<'a> Hunt<'a> {
     }
 
     /// Takes an input that reaches a comparison to where the two sides meet, and puts what lies on both sides.
-    fn to_a_border(&mut self, mutants: &[Mutant]) {
+    fn meet_a_border(&mut self, mutants: &[Mutant]) {
         let (first, kept) = &self.borders[self.random.below(self.borders.len() as u64) as usize];
         if kept.is_empty() {
             return;

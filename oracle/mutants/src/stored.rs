@@ -8,9 +8,12 @@ use std::path::Path;
 
 const MOVE_SIZE: usize = 107;
 
+/// Reads every record of a program's input.
+type Reader = fn(&[u8]) -> Vec<Asked>;
+
 /// The inputs of every test program whose crate lies in the folder, by the crate's name.
 pub fn inputs(crates: &Path) -> Vec<(&'static str, Vec<Asked>)> {
-    let programs: [(&'static str, fn(&[u8]) -> Vec<Asked>); 7] = [
+    let programs: [(&'static str, Reader); 7] = [
         ("roots_test", |bytes| {
             all(bytes, |input, number| {
                 Ok(records::read_doubles(input, number)?.map(Asked::Quartic))

@@ -80,7 +80,7 @@ impl Trial {
             .map_or(1, |patience| 1 + self.runs[mutant] / patience);
         // Another turn for each mutant, lest they all run on the same input.
         let runs = (self.turn + mutant as u64).wrapping_mul(0x9E37_79B9_7F4A_7C15) >> 20 & 0xFFFF;
-        let runs = runs % rarely == 0;
+        let runs = runs.is_multiple_of(rarely);
         self.runs[mutant] += u64::from(runs);
         runs
     }
