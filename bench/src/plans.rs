@@ -1,6 +1,8 @@
-//! The archive's planning functions, safe to call, and the oracle's plans laid out as the archive writes them.
+//! The archive's planning functions, safe to call, and the names of a plan's numbers.
 
-use answers::{Plan, Profile, Stretch};
+use answers::Plan;
+use programs::buffers::lay_out_plan;
+pub use programs::buffers::PLAN_LENGTH;
 
 mod archive {
     extern "C" {
@@ -8,13 +10,6 @@ mod archive {
         pub fn girnhusk_is_blocked(plan: *const f64, plan_len: usize, t: f64) -> u64;
     }
 }
-
-/// How many doubles a plan has, and a profile within it.
-pub const PLAN_LENGTH: usize = 166;
-const PROFILE_LENGTH: usize = 53;
-
-/// Where the two stretches begin: kind, left end, right end, then the profile beside it.
-const STRETCHES: [usize; 2] = [54, 110];
 
 /// The archive's plan of a move: 0 and a plan, or the refusal's number.
 #[inline]
@@ -33,30 +28,8 @@ pub fn is_blocked(plan: &[f64], t: f64) -> u64 {
 /// The oracle's plan as the archive writes it.
 pub fn laid_out(plan: &Plan) -> [f64; PLAN_LENGTH] {
     let mut numbers = [0.0; PLAN_LENGTH];
-    numbers[0] = plan.shortest;
-    lay_out(&plan.profile, &mut numbers[1..]);
-    for ((stretch, profile), start) in plan.stretches.iter().zip(STRETCHES) {
-        let kind = match stretch {
-            Stretch::Nothing => 0.0,
-            Stretch::Between(..) => 1.0,
-            Stretch::From(_) => 2.0,
-        };
-        let [left, right] = stretch.ends().unwrap_or([0.0, 0.0]);
-        numbers[start..start + 3].copy_from_slice(&[kind, left, right]);
-        lay_out(profile, &mut numbers[start + 3..]);
-    }
+    lay_out_plan(plan, &mut numbers);
     numbers
-}
-
-fn lay_out(profile: &Profile, to: &mut [f64]) {
-    let names = [profile.direction, profile.limits, profile.control_signs].map(|place| place as f64);
-    let last = [profile.pf, profile.vf, profile.af, profile.brake, profile.accel];
-    let parts = [&names[..], &profile.t, &profile.t_sum, &profile.j, &profile.a, &profile.v, &profile.p, &last];
-    let mut start = 0;
-    for part in parts {
-        to[start..start + part.len()].copy_from_slice(part);
-        start += part.len();
-    }
 }
 
 /// The name of a plan's number.
@@ -84,7 +57,7 @@ fn name_in_profile(place: usize) -> String {
         0 => "direction".into(),
         1 => "limits".into(),
         2 => "control signs".into(),
-        48..PROFILE_LENGTH => ["pf", "vf", "af", "brake", "accel"][place - 48].into(),
+        48..=52 => ["pf", "vf", "af", "brake", "accel"][place - 48].into(),
         _ => {
             let (name, start) = PARTS.into_iter().rfind(|(_, start)| *start <= place).expect("the first starts at 3");
             format!("{name}[{}]", place - start)

@@ -5,7 +5,7 @@ use answers::{BufferCall, Move, Plan, Profile, Stretch};
 
 /// GIRNHUSK_MOVE_LENGTH, GIRNHUSK_PLAN_LENGTH.
 const MOVE_LENGTH: usize = 13;
-const PLAN_LENGTH: usize = 166;
+pub const PLAN_LENGTH: usize = 166;
 
 /// GIRNHUSK_PLAN_PROFILE, and GIRNHUSK_PLAN_STRETCH_A and _B.
 const PROFILE: usize = 1;
@@ -56,7 +56,8 @@ pub fn is_blocked(oracle: &Oracle, buffer: &[f64], t: f64) -> u64 {
     }
 }
 
-fn lay_out_plan(plan: &Plan, to: &mut [f64]) {
+/// Writes a plan to the start of a buffer.
+pub fn lay_out_plan(plan: &Plan, to: &mut [f64]) {
     to[0] = plan.shortest;
     lay_out_profile(&plan.profile, &mut to[PROFILE..]);
     for ((stretch, profile), start) in plan.stretches.iter().zip(STRETCHES) {
