@@ -1,6 +1,6 @@
 // Calls of single families in, the profiles that they add out, as the oracle's program `families` has them. A record is a move's 13 big-endian doubles, then a byte each
 // for the family, the direction, `return_after_found` and how many profiles the list counts already. A line is how many profiles were added, and each of them.
-// The stored input is the oracle's `inputs 6 families 9000`.
+// oracle/tools/make_stored.py makes the stored input and output.
 
 mod records; // records.rt: what the bytes of a record mean
 mod lines; // lines.rt: the line that answers a record

@@ -1,6 +1,5 @@
 // Reads the coefficients of quartics, four big-endian doubles each, and writes a line for each: how many roots it has that are at least 0, and the roots in reading
-// order by the hexadecimal digits of their bits. The stored input is the oracle's `inputs 4 quartics 6000` and 258 records of tools/threshold_quartics.py after it;
-// the stored output is what the oracle's `quartics` writes.
+// order by the hexadecimal digits of their bits, as the oracle's program `quartics` has them. oracle/tools/make_stored.py makes the stored input and output.
 ghost use mathlib.Core.Path.{_≡_};
 ghost use Prim.Native.Nat.{_+_, _≤_};
 ghost use lib.ListN.{length, take};
