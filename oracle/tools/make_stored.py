@@ -70,7 +70,7 @@ def main():
     store("profile_test", "checks", drawn("checks", 5, 2400) + b"".join(pinned("checks")))
     store("families_test", "families", drawn("families", 6, 9000) + b"".join(pinned("families")))
     store("block_test", "blocks", cut(225, drawn("blocks", 7, 3000) + b"".join(pinned("blocks"))))
-    store("buffer_test", "buffers", cut(138, drawn("buffers", 8, 600)))
+    store("buffer_test", "buffers", cut(138, drawn("buffers", 8, 600) + b"".join(pinned("buffers"))))
     store("replies_test", "replies", broken_records.rests_of_inputs() + drawn("replies", 9, 200) + b"\x6b" + broken_records.TWO[:-1])
     subprocess.run([sys.executable, os.path.join(PROJECT, "tools", "elementary_vectors.py")], check=True)
     print("elementary_test: by tools/elementary_vectors.py")
