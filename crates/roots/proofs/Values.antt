@@ -1,15 +1,16 @@
 -- Worked values of the resolvent and the quartic, one through each branch, by computation. Assumes nothing.
 use mathlib.Core.Path.{_≡_, refl}
 use mathlib.Core.List.{[], _∷_}
-use lib.Ieee.{binary64, ofBits, add, sub, mul, div, neg, lt, le, eq, isNan}
+use lib.Ieee.{nan, binary64, ofBits, add, sub, mul, div, neg, lt, le, eq, isNan}
 use Rattle.doubles.specs.Constants.{0ᶠ, 1ᶠ, 2ᶠ, 3ᶠ, 4ᶠ, 6ᶠ, 8ᶠ}
 use Rattle.doubles.specs.Functions.{absᶠ, minᶠ, maxᶠ}
 use Rattle.elementary.specs.Functions.{sqrtOf, cbrtOf, cosineOf, sineOf}
+use Rattle.roots.specs.declared.list.Roots.{Roots}
 use Rattle.roots.specs.List.{inserted, placed, sortedFrom, ascendingOf, reading}
 use Rattle.roots.specs.Resolvent.{clampedRatio, threeZeros, cubeRoot, quotient, fewZeros, resolventOf}
 use Rattle.roots.specs.Quartic.{withQuadratic, larger, largestZero, equalConstants, factorsOf, rootsByFactors, quarticOf}
 
--- ---- the resolvent: 1, 2 and 3 zeros
+-- ---- the resolvent: 1, 2 and 3 zeros, zeros that are 0, and a NaN
 
 pub record Resolvents : Type 0 where
   -- x³ - 8 has the zero 2; -1 ± √3 i are the others
@@ -18,6 +19,10 @@ pub record Resolvents : Type 0 where
   pub two-zeros : resolventOf 0ᶠ (neg 3ᶠ) 2ᶠ ≡ record { x = neg 2ᶠ ∷ 1ᶠ ∷ 1ᶠ ∷ []; count = 2 }
   -- x³ - 3x has the zeros -√3, √3 and 0
   pub three-zeros : resolventOf 0ᶠ (neg 3ᶠ) 0ᶠ ≡ record { x = ofBits binary64 0xbffb_b67a_e858_4caa ∷ ofBits binary64 0x3ffb_b67a_e858_4caa ∷ 0ᶠ ∷ []; count = 3 }
+  -- x³ has the zero 0, and -0 twice
+  pub at-zero : resolventOf 0ᶠ 0ᶠ 0ᶠ ≡ record { x = 0ᶠ ∷ neg 0ᶠ ∷ neg 0ᶠ ∷ []; count = 2 }
+  -- a NaN makes all NaN, and one zero
+  pub of-nan : resolventOf nan 0ᶠ 0ᶠ ≡ record { x = nan ∷ nan ∷ nan ∷ []; count = 1 }
 
 pub resolvents : Resolvents
 unfolding add sub mul div neg lt le eq isNan ofBits absᶠ minᶠ maxᶠ sqrtOf cbrtOf cosineOf sineOf resolventOf threeZeros clampedRatio cubeRoot quotient fewZeros
@@ -26,7 +31,18 @@ resolvents =
       one-zero = refl;
       two-zeros = refl;
       three-zeros = refl;
+      at-zero = refl;
+      of-nan = refl;
     }
+
+-- ---- the list: what is full stays as it is, also for a value that would be read first
+
+abbrev four : Roots
+four = record { values = 1ᶠ ∷ 2ᶠ ∷ 3ᶠ ∷ 4ᶠ ∷ []; count = 4 }
+
+pub full-list : inserted four 0ᶠ ≡ four
+unfolding inserted le ofBits
+full-list = refl
 
 -- ---- the quartic where c and d are 0, and where a, b and d are
 

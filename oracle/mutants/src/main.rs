@@ -22,6 +22,7 @@ include!(concat!(env!("OUT_DIR"), "/modules.rs"));
 use asked::Asked;
 use hunt::Hunt;
 use mutation::Mutant;
+use reasons::Standing;
 use std::collections::HashSet;
 use std::env;
 use std::io;
@@ -92,10 +93,12 @@ fn report(mutants: &[Mutant], crates: &str, pins: &str) -> ExitCode {
     );
     println!();
     table::print(mutants, before.living(), &living);
+    println!("\n## Proved: no stored answer shows them, a law or a worked example does");
+    table::print_reasons(&living, Standing::Proved);
     println!("\n## Unobservable: no input can tell them apart");
-    table::print_reasons(&living, true);
-    println!("\n## Living: no input found");
-    table::print_reasons(&living, false);
+    table::print_reasons(&living, Standing::Unobservable);
+    println!("\n## Not found: no input is known that tells them apart");
+    table::print_reasons(&living, Standing::NotFound);
     without_reason(&living)
 }
 

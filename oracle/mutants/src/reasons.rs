@@ -5,8 +5,16 @@ use mutation::Mutant;
 
 const TEXT: &str = include_str!("../reasons.txt");
 
-/// How a reason that is no proof begins.
-const NOT_FOUND: &str = "Not found";
+/// What a reason says of its mutants, by a word of its text.
+#[derive(Clone, Copy, PartialEq)]
+pub enum Standing {
+    /// No input can tell them apart.
+    Unobservable,
+    /// No stored input calls what would show them; a law or a worked example of the proofs fixes the answer ("Proved:").
+    Proved,
+    /// None was found that tells them apart ("Not found").
+    NotFound,
+}
 
 pub struct Reason {
     pub text: &'static str,
@@ -15,9 +23,14 @@ pub struct Reason {
 }
 
 impl Reason {
-    /// Whether nothing can see the mutants that it is for.
-    pub fn is_proof(&self) -> bool {
-        !self.text.contains(NOT_FOUND)
+    pub fn standing(&self) -> Standing {
+        if self.text.contains("Not found") {
+            Standing::NotFound
+        } else if self.text.contains("Proved:") {
+            Standing::Proved
+        } else {
+            Standing::Unobservable
+        }
     }
 
     pub fn is_for(&self, mutant: &Mutant) -> bool {

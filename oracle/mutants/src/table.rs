@@ -1,19 +1,16 @@
 //! How many mutants of each file and kind are told apart, and why the others aren't.
 
-use crate::reasons::{self, Reason};
+use crate::reasons::{self, Reason, Standing};
 use mutation::Mutant;
 use std::collections::BTreeMap;
 
 /// Where a mutant is and what it changes.
 pub fn name(mutant: &Mutant) -> String {
-    let Mutant {
-        file,
-        function,
-        line,
-        kind,
-        change,
-    } = mutant;
-    format!("{file}:{line} {function} [{kind}] {change}")
+    let place = format!("{}:{}", mutant.file, mutant.line);
+    format!(
+        "{place} {} [{}] {}",
+        mutant.function, mutant.kind, mutant.change
+    )
 }
 
 /// The living mutants with their reasons, and those without one.
@@ -41,9 +38,9 @@ pub fn explained<'a>(mutants: &'a [Mutant], living: &[usize]) -> Living<'a> {
     Living { by_reason, without }
 }
 
-/// A row for each file and kind: killed by the stored inputs of before, killed now, unobservable, not found.
+/// A row for each file and kind: killed by the stored inputs of before, killed now, proved, unobservable, not found.
 pub fn print(mutants: &[Mutant], before: &[usize], living: &Living) {
-    let mut rows: BTreeMap<(&str, &str), [usize; 4]> = BTreeMap::new();
+    let mut rows: BTreeMap<(&str, &str), [usize; 5]> = BTreeMap::new();
     for (number, mutant) in mutants.iter().enumerate() {
         let row = rows.entry((&mutant.file, mutant.kind)).or_default();
         row[0] += usize::from(before.binary_search(&number).is_err());
@@ -53,39 +50,41 @@ pub fn print(mutants: &[Mutant], before: &[usize], living: &Living) {
         for mutant in list {
             let row = rows.entry((&mutant.file, mutant.kind)).or_default();
             row[1] -= 1;
-            row[if reason.is_proof() { 2 } else { 3 }] += 1;
+            row[match reason.standing() {
+                Standing::Proved => 2,
+                Standing::Unobservable => 3,
+                Standing::NotFound => 4,
+            }] += 1;
         }
     }
     for mutant in &living.without {
         let row = rows.entry((&mutant.file, mutant.kind)).or_default();
         row[1] -= 1;
-        row[3] += 1;
+        row[4] += 1;
     }
-    println!("| file | kind | mutants | killed before | killed | unobservable | living, not found |\n|---|---|---|---|---|---|---|");
-    let mut sums = [0; 4];
+    println!("| file | kind | mutants | killed before | killed | proved | unobservable | not found |\n|---|---|---|---|---|---|---|---|");
+    let mut sums = [0; 5];
     for ((file, kind), row) in rows {
-        let [before, killed, unobservable, not_found] = row;
-        println!(
-            "| {file} | {kind} | {} | {before} | {killed} | {unobservable} | {not_found} |",
-            killed + unobservable + not_found
-        );
+        print_row(file, kind, row);
         sums.iter_mut()
             .zip(row)
             .for_each(|(sum, count)| *sum += count);
     }
-    let [before, killed, unobservable, not_found] = sums;
-    println!(
-        "| all | | {} | {before} | {killed} | {unobservable} | {not_found} |",
-        killed + unobservable + not_found
-    );
+    print_row("all", "", sums);
 }
 
-/// Every reason with the mutants that it is for; `proof` tells which reasons.
-pub fn print_reasons(living: &Living, proof: bool) {
+fn print_row(file: &str, kind: &str, row: [usize; 5]) {
+    let [before, killed, proved, unobservable, not_found] = row;
+    let mutants = killed + proved + unobservable + not_found;
+    println!("| {file} | {kind} | {mutants} | {before} | {killed} | {proved} | {unobservable} | {not_found} |");
+}
+
+/// Every reason of one standing with the mutants that it is for.
+pub fn print_reasons(living: &Living, standing: Standing) {
     for (reason, list) in living
         .by_reason
         .iter()
-        .filter(|(reason, list)| reason.is_proof() == proof && !list.is_empty())
+        .filter(|(reason, list)| reason.standing() == standing && !list.is_empty())
     {
         println!("\n{}\n", reason.text);
         list.iter()
@@ -95,12 +94,9 @@ pub fn print_reasons(living: &Living, proof: bool) {
 
 /// A mutant's line: its place as code, and its change, whose own marks are kept.
 fn in_code(mutant: &Mutant) -> String {
-    let Mutant {
-        file,
-        function,
-        line,
-        kind,
-        change,
-    } = mutant;
-    format!("{file}:{line} `{function}` ({kind}) {change}")
+    let place = format!("{}:{}", mutant.file, mutant.line);
+    format!(
+        "{place} `{}` ({}) {}",
+        mutant.function, mutant.kind, mutant.change
+    )
 }
