@@ -12,7 +12,7 @@ use lib.Ieee.Bits.{ofBits-toBits, toBits-lt}
 use lib.Ieee.Compare.{differs-from-itself}
 use Rattle.bits.specs.Fields.{patternUnits}
 use Rattle.bits.proofs.Patterns.{pattern-most, units-lt, units-above}
-use Rattle.elementary.specs.Functions.{cosineOf, sineOf}
+use Rattle.elementary.specs.Functions.{thirdAngleCosineOf, thirdAngleSineOf}
 use Rattle.elementary.proofs.Cosine.{cosine-of-value, cosine-outside}
 use Rattle.elementary.proofs.Sine.{sine-of-value, sine-outside}
 use Rattle.elementary.proofs.Values.{cosine-one, sine-one, cosine-minus-one, sine-minus-one}
@@ -22,10 +22,10 @@ use Rattle.angle.proofs.Values.{signed-value}
 
 -- the cosine and the sine of t are c and s
 abbrev pub Both : Float → Float → Float → Type 0
-Both t c s = (c ≡ cosineOf t) × (s ≡ sineOf t)
+Both t c s = (c ≡ thirdAngleCosineOf t) × (s ≡ thirdAngleSineOf t)
 
 pub not-a-number : (t : Float) → ne t t ≡ true → Both t t t
-unfolding cosineOf sineOf
+unfolding thirdAngleCosineOf thirdAngleSineOf
 not-a-number t h = let e : t ≡ nan = differs-from-itself t (subst T (sym h) tt) in subst (λ (y : Float). Both y y y) (sym e) (refl, refl)
 
 none : div binary64 (ofBits binary64 0) (ofBits binary64 0) ≡ nan
@@ -35,7 +35,7 @@ none = refl
 -- ---- by the sign bit and the pattern of the magnitude
 
 infinite : (sign : ℕ) → sign < 2 → Both (ofBits binary64 (sign * 2 ^ 63 + 0x7ff0_0000_0000_0000)) nan nan
-unfolding cosineOf sineOf ofBits
+unfolding thirdAngleCosineOf thirdAngleSineOf ofBits
 infinite zero h = (refl, refl)
 infinite (suc zero) h = (refl, refl)
 infinite (suc (suc s)) h = absurd (let z : ⊥ = omega arith in z)

@@ -6,7 +6,7 @@ use lib.Bits.{bitAnd}
 use lib.Ieee.{Float, binary64, ofBits, toBits}
 use Rattle.doubles.specs.Operators.{_+ᶠ_, _-ᶠ_, _*ᶠ_, _/ᶠ_, _<ᶠ_, _!=ᶠ_}
 use Rattle.doubles.specs.Constants.{½ᶠ, 1ᶠ, 2ᶠ, 3ᶠ, 6ᶠ, 24ᶠ}
-use Rattle.estimates.specs.Estimates.{leadingDigits}
+use Rattle.doubles.specs.Splitting.{leadingDigits}
 
 -- ---- 1 / √x
 

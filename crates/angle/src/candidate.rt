@@ -4,7 +4,7 @@
 ghost use mathlib.Core.Path.{_≡_};
 ghost use Prim.Native.Nat.{_<_, _^_};
 ghost use Rattle.angle.specs.Candidates.{firstGuess, newtonStep, inverseRoot, polynomialOf, excessOf, correctionOf, Estimated, cosineCandidate, nearRoot, largeSine, smallSine, sineCandidate};
-use estimates::leading_digits;
+use doubles::leading_digits;
 
 // 1 / √x to within 3.5 % for the pattern b of a normal double x: half the exponent, and a straight line for the significand.
 fn first_guess(b: u64) -> f64

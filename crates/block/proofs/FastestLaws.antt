@@ -10,7 +10,7 @@ use Rattle.block.specs.Blocks.{total}
 use Rattle.block.specs.Selection.{faster, fastest}
 use Rattle.block.specs.Steps.{orNext, fastestOfThree}
 use Rattle.block.specs.declared.Fastest.{Fastest}
-use Rattle.block.proofs.CondLaws.{cond-of}
+use Rattle.doubles.proofs.CondLaws.{cond-of}
 
 -- it is one of the first n + 1
 pub fastest-below : (s : ℕ → Profile) (n : ℕ) → fastest s n < suc n

@@ -14,8 +14,8 @@ use Rattle.block.specs.Blocks.{total, blockOf, planned}
 use Rattle.block.specs.Selection.{near, ofTwo, faster, fastest, ofThree, withTwo, ofFive, sameDirection, selected}
 use Rattle.block.specs.Plans.{refusal}
 use Rattle.block.specs.declared.Answer.{Answer}
-use Rattle.block.proofs.CondLaws.{cond-of, cond-by}
-use Rattle.block.proofs.ComparisonLaws.{lt-irreflexive, lt-asymmetric, not-through, not-below}
+use Rattle.doubles.proofs.CondLaws.{cond-of, cond-by}
+use Rattle.doubles.proofs.ComparisonLaws.{lt-irreflexive, lt-asymmetric, not-through, not-below}
 use Rattle.block.proofs.MemberLaws.{selected-each}
 
 -- ---- no profile is faster than the fastest

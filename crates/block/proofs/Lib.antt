@@ -1,6 +1,4 @@
 -- The laws of `block`. Those for whole plans: MemberLaws, StretchLaws, LeastLaws, RefusalLaws.
-pub mod CondLaws
-pub mod ComparisonLaws
 pub mod FastestLaws
 pub mod SelectionLaws
 pub mod ArrayLaws

@@ -13,7 +13,7 @@ use Rattle.block.specs.Plans.{Beside, Each, IntervalOf, none, some, Bloc
 use Rattle.block.specs.declared.Interval.{Interval}
 use Rattle.block.specs.declared.Block.{Block}
 use Rattle.block.specs.declared.Answer.{Answer}
-use Rattle.block.proofs.CondLaws.{cond-of, cond-by}
+use Rattle.doubles.proofs.CondLaws.{cond-of, cond-by}
 use Rattle.block.proofs.FastestLaws.{fastest-below}
 use Rattle.block.proofs.SelectionLaws.{moved-below}
 

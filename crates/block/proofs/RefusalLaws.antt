@@ -12,7 +12,7 @@ use Rattle.block.specs.Blocks.{total, planned, refused}
 use Rattle.block.specs.Selection.{near, ofTwo, fastest, ofThree, withTwo, ofFive, sameDirection, removal, without, ofFour, selected}
 use Rattle.block.specs.Plans.{refusal, refusalOf}
 use Rattle.block.specs.declared.Answer.{Answer}
-use Rattle.block.proofs.CondLaws.{cond-of, cond-by}
+use Rattle.doubles.proofs.CondLaws.{cond-of, cond-by}
 
 -- ---- which counts are refused
 pub selected-refusal : (s : ℕ → Profile) (n : ℕ) → selected s n .refusal ≡ refusalOf s n

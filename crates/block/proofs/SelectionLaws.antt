@@ -6,7 +6,7 @@ use borrow.Author.Tests.{eqb-true}
 use lib.Dec.{ltb, eqb}
 use Rattle.profile.specs.declared.Profile.{Profile}
 use Rattle.block.specs.Selection.{fastest, ofThree, ofFive, removal, movedUp, without, ofFour, selected}
-use Rattle.block.proofs.CondLaws.{cond-of, cond-same}
+use Rattle.doubles.proofs.CondLaws.{cond-of, cond-same}
 use Rattle.block.proofs.FastestLaws.{fastest-below, fastest-same}
 
 -- the same profiles below n

@@ -14,8 +14,8 @@ use Rattle.block.specs.Plans.{inOrder, IntervalOf, none, some, BlockOf, 
 use Rattle.block.specs.declared.Stretch.the-variants.{Between, From}
 use Rattle.block.specs.declared.Interval.{Interval}
 use Rattle.block.specs.declared.Block.{Block}
-use Rattle.block.proofs.CondLaws.{cond-by}
-use Rattle.block.proofs.ComparisonLaws.{lt-asymmetric, not-below}
+use Rattle.doubles.proofs.CondLaws.{cond-by}
+use Rattle.doubles.proofs.ComparisonLaws.{lt-asymmetric, not-below}
 use Rattle.block.proofs.MemberLaws.{plan-of}
 
 -- ---- no stretch ends before it begins

@@ -3,8 +3,8 @@
 ghost use mathlib.Core.Path.{_≡_};
 ghost use Rattle.block.specs.Selection.{slot, sameDirection, near, alike, alikeRemoval, removal};
 use crate::total;
+use doubles::EPSILON;
 use profile::Direction;
-use profile::EPSILON;
 use profile::Profile;
 
 pub fn same_direction(d: Direction, e: Direction) -> bool

@@ -12,7 +12,7 @@ use crate::removal::near;
 use crate::removal::removal;
 use crate::removal::same_direction;
 use crate::total;
-use profile::EPSILON;
+use doubles::EPSILON;
 use profile::Profile;
 
 impl Fastest {

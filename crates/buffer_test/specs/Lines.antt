@@ -8,7 +8,7 @@ use Rattle.doubles.specs.Operators.{_==ᶠ_}
 use Rattle.profile_lines.specs.Text.{ascii}
 use Rattle.profile_lines.specs.Fields.{field, doubleFields}
 use Rattle.decimals.specs.Decimal.{decimal}
-use Rattle.plan_buffer.specs.Answers.{planStatus, planWritten, blockedStatus}
+use Rattle.plan_buffer.specs.Buffers.{planStatus, planWritten, blockedStatus}
 use Rattle.buffer_test.specs.Records.{minus1ᶠ, moveOf, bufferOf, timeOf}
 
 -- every number is still -1

@@ -17,7 +17,7 @@ use Rattle.profile.specs.declared.Start.{Start}
 use Rattle.profile.specs.declared.Target.{Target}
 use Rattle.profile.specs.declared.ControlSigns.the-variants.{UDDU}
 use Rattle.candidates.specs.Try.{Try, passes, profileOf}
-use Rattle.candidates.specs.List.{slot, made, stored, added, freshList}
+use Rattle.candidates.specs.List.{slot, profileIn, stored, added, freshList}
 use Rattle.candidates.specs.Counted.{Counted, AcceptedOf, Sized, EightRows, Ready, Sound}
 use Rattle.candidates.specs.declared.Candidates.{Candidates}
 use Rattle.candidates.proofs.CheckLaws.{checked-yes, start-of, target-of, brake-of, accel-of}
@@ -28,9 +28,9 @@ empty-rows : EightRows emptyProfile
 unfolding emptyProfile
 empty-rows = record { a = refl; v = refl; p = refl }
 
-made-rows : (brake accel : Float) (x : Try) → EightRows (profileOf brake accel x)
+profile-rows : (brake accel : Float) (x : Try) → EightRows (profileOf brake accel x)
 unfolding profileOf filled rowsOf
-made-rows brake accel x = record { a = refl; v = refl; p = refl }
+profile-rows brake accel x = record { a = refl; v = refl; p = refl }
 
 module _ (q r : Profile) (h : EightRows q) where
   from-rows : EightRows (boundaryFrom q r)
@@ -77,36 +77,36 @@ module _ (input : Profile) where
 
 -- ---- an accepted try is added
 module _ {start : Start} {target : Target} {brake accel : Float} (c : Candidates) (x : Try) (r : Ready start target brake accel c) (es : x .start ≡ start) (et : x .target ≡ target) where
-  made-own : made c x ≡ profileOf brake accel x
-  made-own = rw (r .brake-is, r .accel-is)
+  profile-own : profileIn c x ≡ profileOf brake accel x
+  profile-own = rw (r .brake-is, r .accel-is)
 
   -- the slot then current holds the same boundary
-  start-then : startOf (slot (stored c (made c x)) (stored c (made c x) .«current_index»)) ≡ start
+  start-then : startOf (slot (stored c (profileIn c x)) (stored c (profileIn c x) .«current_index»)) ≡ start
   start-then =
-      let made-start : startOf (made c x) ≡ start = start-of _ _ x ∙ es in
+      let profile-start : startOf (profileIn c x) ≡ start = start-of _ _ x ∙ es in
       ⊎-elim
-      (λ above. rw (index-above c (made c x) above) (ap startOf (slot-stored c (made c x) (r .sized)) ∙ made-start))
-      (λ below. rw (index-below c (made c x) below) (ap startOf (slot-next c (made c x) (r .sized) below) ∙ start-from _ (made c x) (r .rows (c .«current_index» + 1) (omega arith)) ∙ made-start))
-      (five-or-below c (made c x) (r .sized))
+      (λ above. rw (index-above c (profileIn c x) above) (ap startOf (slot-stored c (profileIn c x) (r .sized)) ∙ profile-start))
+      (λ below. rw (index-below c (profileIn c x) below) (ap startOf (slot-next c (profileIn c x) (r .sized) below) ∙ start-from _ (profileIn c x) (r .rows (c .«current_index» + 1) (omega arith)) ∙ profile-start))
+      (five-or-below c (profileIn c x) (r .sized))
 
-  target-then : targetOf (slot (stored c (made c x)) (stored c (made c x) .«current_index»)) ≡ target
+  target-then : targetOf (slot (stored c (profileIn c x)) (stored c (profileIn c x) .«current_index»)) ≡ target
   target-then =
-      let made-target : targetOf (made c x) ≡ target = target-of _ _ x ∙ et in
+      let profile-target : targetOf (profileIn c x) ≡ target = target-of _ _ x ∙ et in
       ⊎-elim
-      (λ above. rw (index-above c (made c x) above) (ap targetOf (slot-stored c (made c x) (r .sized)) ∙ made-target))
-      (λ below. rw (index-below c (made c x) below) (ap targetOf (slot-next c (made c x) (r .sized) below) ∙ target-from _ (made c x) (r .rows (c .«current_index» + 1) (omega arith)) ∙ made-target))
-      (five-or-below c (made c x) (r .sized))
+      (λ above. rw (index-above c (profileIn c x) above) (ap targetOf (slot-stored c (profileIn c x) (r .sized)) ∙ profile-target))
+      (λ below. rw (index-below c (profileIn c x) below) (ap targetOf (slot-next c (profileIn c x) (r .sized) below) ∙ target-from _ (profileIn c x) (r .rows (c .«current_index» + 1) (omega arith)) ∙ profile-target))
+      (five-or-below c (profileIn c x) (r .sized))
 
-  rows-then : (i : ℕ) → i < 6 → EightRows (slot (stored c (made c x)) i)
+  rows-then : (i : ℕ) → i < 6 → EightRows (slot (stored c (profileIn c x)) i)
   rows-then i l =
-      let other : i ≢ c .«current_index» → i ≢ (c .«current_index» + 1) → EightRows (slot (stored c (made c x)) i) = λ g h. subst EightRows (sym (slot-other c (made c x) (r .sized) i g h)) (r .rows i l) in
+      let other : i ≢ c .«current_index» → i ≢ (c .«current_index» + 1) → EightRows (slot (stored c (profileIn c x)) i) = λ g h. subst EightRows (sym (slot-other c (profileIn c x) (r .sized) i g h)) (r .rows i l) in
       elim (decLe i (c .«current_index»)) [
         | yes a ↦ ⊎-elim
-            (λ e. subst EightRows (sym (ap (λ (k : ℕ). slot (stored c (made c x)) k) e ∙ slot-stored c (made c x) (r .sized))) (made-rows _ _ x))
+            (λ e. subst EightRows (sym (ap (λ (k : ℕ). slot (stored c (profileIn c x)) k) e ∙ slot-stored c (profileIn c x) (r .sized))) (profile-rows _ _ x))
             (λ below. other (λ e. omega arith) (λ e. omega arith))
             (eq-or-lt-of-le a)
         | no a ↦ ⊎-elim
-            (λ e. subst EightRows (sym (ap (λ (k : ℕ). slot (stored c (made c x)) k) (sym e) ∙ slot-next c (made c x) (r .sized) (omega arith))) (from-rows _ (made c x) (r .rows (c .«current_index» + 1) (omega arith))))
+            (λ e. subst EightRows (sym (ap (λ (k : ℕ). slot (stored c (profileIn c x)) k) (sym e) ∙ slot-next c (profileIn c x) (r .sized) (omega arith))) (from-rows _ (profileIn c x) (r .rows (c .«current_index» + 1) (omega arith))))
             (λ above. other (λ e. omega arith) (λ e. omega arith))
             (eq-or-lt-of-le (let next : c .«current_index» + 1 ≤ i = omega arith in next))
       ]
@@ -115,17 +115,17 @@ module _ {start : Start} {target : Target} {brake accel : Float} (c : Candidates
   unfolding added
   added-ready =
       record {
-        sized = stored-sized c (made c x) (r .sized);
+        sized = stored-sized c (profileIn c x) (r .sized);
         rows = rows-then;
         start-is = start-then;
         target-is = target-then;
-        brake-is = brake-then c (made c x) (r .sized) ∙ brake-of _ _ x ∙ r .brake-is;
-        accel-is = accel-then c (made c x) (r .sized) ∙ accel-of _ _ x ∙ r .accel-is;
+        brake-is = brake-then c (profileIn c x) (r .sized) ∙ brake-of _ _ x ∙ r .brake-is;
+        accel-is = accel-then c (profileIn c x) (r .sized) ∙ accel-of _ _ x ∙ r .accel-is;
       }
 
   -- the check of the slot's own profile at the try's times, as the Rust has it, says yes and gives what is added
   pub slot-checked : (g : Profile) → startOf g ≡ startOf (slot c (c .«current_index»)) → targetOf g ≡ targetOf (slot c (c .«current_index»)) → g .brake ≡ slot c (c .«current_index») .brake → g .accel ≡ slot c (c .«current_index») .accel → g .t ≡ x .t
-      → passes x ≡ true → checked g UDDU (x .reached) false (x .jf) (x .limits) ≡ record { ok = true; profile = made c x }
+      → passes x ≡ true → checked g UDDU (x .reached) false (x .jf) (x .limits) ≡ record { ok = true; profile = profileIn c x }
   slot-checked g gs gt gb ga e p = rw (← gb, ← ga) (checked-yes x g (gs ∙ r .start-is ∙ sym es) (gt ∙ r .target-is ∙ sym et) e p)
 
   -- and what counts then was accepted
@@ -133,5 +133,5 @@ module _ {start : Start} {target : Target} {brake accel : Float} (c : Candidates
   added-sound {G} h g p =
       record {
         ready = added-ready;
-        counted = added-counted (AcceptedOf G brake accel) c x (r .sized) h (record { x = x; is-of = g; passed = p; made-is = made-own });
+        counted = added-counted (AcceptedOf G brake accel) c x (r .sized) h (record { x = x; is-of = g; passed = p; profile-is = profile-own });
       }

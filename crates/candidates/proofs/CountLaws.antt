@@ -12,7 +12,7 @@ use lib.Seq.{getD-set-same, getD-set-other}
 use Rattle.profile.specs.Boundary.{emptyProfile, withBoundary, boundaryFrom}
 use Rattle.profile.specs.declared.Profile.{Profile}
 use Rattle.candidates.specs.Try.{Try}
-use Rattle.candidates.specs.List.{slot, made, stored, added}
+use Rattle.candidates.specs.List.{slot, profileIn, stored, added}
 use Rattle.candidates.specs.Counted.{Counted, Sized, SameCounted}
 use Rattle.candidates.specs.declared.Candidates.{Candidates}
 use Rattle.candidates.proofs.SlotLaws.{stored-below, stored-above}
@@ -94,22 +94,22 @@ module _ (c : Candidates) (q : Profile) where
 -- ---- at most five count
 pub added-sized : (c : Candidates) (x : Try) → Sized c → Sized (added c x)
 unfolding added
-added-sized c x s = stored-sized c (made c x) s
+added-sized c x s = stored-sized c (profileIn c x) s
 
 -- ---- and at least one
 pub added-counts : (c : Candidates) (x : Try) → 0 < added c x .«current_index»
 unfolding added
 added-counts c x = by (ltb (c .«current_index») 5) refl
   where
-    by : (b : Bool) → ltb (c .«current_index») 5 ≡ b → 0 < stored c (made c x) .«current_index»
-    by true e = omega (arith, index-below c (made c x) (ltb-true (c .«current_index») 5 e))
-    by false e = omega (arith, ltb-false (c .«current_index») 5 e, index-above c (made c x) (ltb-false (c .«current_index») 5 e))
+    by : (b : Bool) → ltb (c .«current_index») 5 ≡ b → 0 < stored c (profileIn c x) .«current_index»
+    by true e = omega (arith, index-below c (profileIn c x) (ltb-true (c .«current_index») 5 e))
+    by false e = omega (arith, ltb-false (c .«current_index») 5 e, index-above c (profileIn c x) (ltb-false (c .«current_index») 5 e))
 
 -- ---- what holds of each profile that counts, and of the one that is added, holds of each that counts then
-pub added-counted : (P : Profile → Type 0) (c : Candidates) (x : Try) → Sized c → Counted P c → P (made c x) → Counted P (added c x)
+pub added-counted : (P : Profile → Type 0) (c : Candidates) (x : Try) → Sized c → Counted P c → P (profileIn c x) → Counted P (added c x)
 unfolding added
 added-counted P c x s h p i l =
-    let q = made c x in
+    let q = profileIn c x in
     ⊎-elim
     (λ e. subst P (sym (ap (λ (k : ℕ). slot (stored c q) k) e ∙ slot-stored c q s)) p)
     (λ below. subst P (sym (slot-other c q s i (λ e. omega arith) (λ e. omega arith))) (h i below))
@@ -121,8 +121,8 @@ unfolding added
 added-same c d x h =
     let sc = h .sized in
     let sd = h .sized′ in
-    let q = made c x in
-    let e : made c x ≡ made d x = rw (h .brake, h .accel) in
+    let q = profileIn c x in
+    let e : profileIn c x ≡ profileIn d x = rw (h .brake, h .accel) in
     rw (← e)
     (record {
       sized = stored-sized c q sc;

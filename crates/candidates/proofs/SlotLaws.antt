@@ -10,7 +10,7 @@ use Rattle.profile.specs.Boundary.{emptyProfile, boundaryFrom}
 use Rattle.profile.specs.declared.Profile.{Profile}
 use Rattle.profile.proofs.Profile.{the-field}
 use Rattle.candidates.specs.Try.{Try, profileOf}
-use Rattle.candidates.specs.List.{slot, made, stored, added}
+use Rattle.candidates.specs.List.{slot, profileIn, stored, added}
 use Rattle.candidates.specs.declared.Candidates.{Candidates}
 
 -- within the list, it doesn't matter what lies past its end
@@ -42,10 +42,10 @@ module _ (c : Candidates) (q : Profile) where
 module _ (c : Candidates) (x : Try) (holds-six : length (c .«valid_profiles») ≡ 6) where
   pub added-out : 5 < c .«current_index» → c ≡ added c x
   unfolding added
-  added-out h = stored-out c (made c x) holds-six h
+  added-out h = stored-out c (profileIn c x) holds-six h
 
-  made-is : (d : Profile) {q : Profile} → c .«current_index» < 6 → q ≡ profileOf (getD (c .«valid_profiles») (c .«current_index») d .brake) (getD (c .«valid_profiles») (c .«current_index») d .accel) x → q ≡ made c x
-  made-is d h e =
+  profile-is : (d : Profile) {q : Profile} → c .«current_index» < 6 → q ≡ profileOf (getD (c .«valid_profiles») (c .«current_index») d .brake) (getD (c .«valid_profiles») (c .«current_index») d .accel) x → q ≡ profileIn c x
+  profile-is d h e =
       let within : c .«current_index» < length (c .«valid_profiles») = omega arith in
       e ∙ rw (getD-within (c .«valid_profiles») (c .«current_index») d emptyProfile within)
 
@@ -57,7 +57,7 @@ module _ (c : Candidates) (x : Try) (holds-six : length (c .«valid_profiles») 
   added-below d {q} h e f =
       let below : c .«current_index» < 6 = omega arith in
       let within : c .«current_index» + 1 < length (set (c .«valid_profiles») (c .«current_index») q) = simp length-set (omega arith) in
-      stored-below c q h (f ∙ ap (λ (z : Profile). boundaryFrom z q) (getD-within (set (c .«valid_profiles») (c .«current_index») q) (c .«current_index» + 1) d emptyProfile within)) ∙ ap (λ (z : Profile). stored c z) (made-is d below e)
+      stored-below c q h (f ∙ ap (λ (z : Profile). boundaryFrom z q) (getD-within (set (c .«valid_profiles») (c .«current_index») q) (c .«current_index» + 1) d emptyProfile within)) ∙ ap (λ (z : Profile). stored c z) (profile-is d below e)
 
   pub added-last : (d : Profile) {q : Profile} → c .«current_index» ≤ 5 → 5 ≤ c .«current_index»
       → q ≡ profileOf (getD (c .«valid_profiles») (c .«current_index») d .brake) (getD (c .«valid_profiles») (c .«current_index») d .accel) x
@@ -65,4 +65,4 @@ module _ (c : Candidates) (x : Try) (holds-six : length (c .«valid_profiles») 
   unfolding added
   added-last d {q} h g e =
       let below : c .«current_index» < 6 = omega arith in
-      stored-above c q g ∙ ap (λ (z : Profile). stored c z) (made-is d below e)
+      stored-above c q g ∙ ap (λ (z : Profile). stored c z) (profile-is d below e)

@@ -21,7 +21,7 @@ pub record AcceptedOf (G : Try → Type 0) (brake accel : Float) (q : Profile) :
   pub x : Try
   pub is-of : G x
   pub passed : passes x ≡ true
-  pub made-is : q ≡ profileOf brake accel x
+  pub profile-is : q ≡ profileOf brake accel x
 
 -- six slots, of which at most five count
 pub record Sized (c : Candidates) : Type 0 where

@@ -26,12 +26,12 @@ stored c q =
     (record { «valid_profiles» = slots; «current_index» = i })
 
 -- the profile that an accepted try makes: its own start and target, the durations of the current slot
-abbrev pub made : Candidates → Try → Profile
-made c x = profileOf (slot c (c .«current_index») .brake) (slot c (c .«current_index») .accel) x
+abbrev pub profileIn : Candidates → Try → Profile
+profileIn c x = profileOf (slot c (c .«current_index») .brake) (slot c (c .«current_index») .accel) x
 
 -- `add_profile` after a check that accepted the try
 unfoldable pub added : Candidates → Try → Candidates
-added c x = stored c (made c x)
+added c x = stored c (profileIn c x)
 
 -- a fresh planner's list: empty profiles, the first with the boundary of the input
 unfoldable pub freshList : Profile → Candidates

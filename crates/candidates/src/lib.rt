@@ -56,7 +56,7 @@ pub fn profile_of(
     empty.brake = brake;
     empty.accel = accel;
     let boundary = empty.with_boundary(start, target);
-    profile_check::made(boundary, t, ControlSigns::UDDU, reached, false, jf, limits)
+    profile_check::filled(boundary, t, ControlSigns::UDDU, reached, false, jf, limits)
 }
 
 impl Candidates {
@@ -89,7 +89,7 @@ impl Candidates {
         let at = self.current_index;
         if at < 6 {
             let slot = self.valid_profiles[at];
-            let made = profile_of(
+            let profile = profile_of(
                 slot.brake,
                 slot.accel,
                 start,
@@ -99,11 +99,11 @@ impl Candidates {
                 jf,
                 limits,
             );
-            self.valid_profiles[at] = made;
+            self.valid_profiles[at] = profile;
             if at < 5 {
                 let next = at + 1;
                 let beyond = self.valid_profiles[next];
-                self.valid_profiles[next] = beyond.with_boundary_from_profile(made);
+                self.valid_profiles[next] = beyond.with_boundary_from_profile(profile);
                 self.current_index = next;
             }
         }

@@ -3,7 +3,7 @@ use Prim.Native.Nat.{ℕ, _+_, _/_}
 use lib.Ieee.{Float, binary64, ofBits}
 use Rattle.doubles.specs.Operators.{_+ᶠ_, _-ᶠ_, _*ᶠ_, _/ᶠ_}
 use Rattle.doubles.specs.Constants.{1ᶠ}
-use Rattle.estimates.specs.Estimates.{leadingDigits}
+use Rattle.doubles.specs.Splitting.{leadingDigits}
 
 -- near the cube root, by the pattern b
 unfoldable pub firstGuess : ℕ → Float

@@ -3,7 +3,7 @@
 ghost use mathlib.Core.Path.{_≡_};
 ghost use Prim.Native.Nat.{_<_, _^_};
 ghost use Rattle.cbrt.specs.Candidate.{firstGuess, factorOf, refinedRoot, candidateOf};
-use estimates::leading_digits;
+use doubles::leading_digits;
 
 // Near the cube root of the double whose pattern is b: a third of the exponent.
 fn first_guess(b: u64) -> f64

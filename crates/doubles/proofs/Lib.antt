@@ -1,4 +1,5 @@
 -- The laws of `doubles`.
+pub mod CondLaws
 pub mod SignedLaws
 pub mod RoundLaws
 pub mod ValueLaws
@@ -10,3 +11,5 @@ pub mod IntegerLaws
 pub mod ErrorChain
 pub mod DoubleLaws
 pub mod FunctionLaws
+pub mod ComparisonLaws
+pub mod NonNegativeLaws

@@ -12,15 +12,9 @@ use lib.Ieee.Exact.{HasValue, odd-sign}
 use lib.Ieee.Order.{drop, kept}
 use lib.Ieee.Scale.{overflow, finite}
 use Rattle.doubles.specs.Signed.{Signed}
-use Rattle.doubles.specs.Value.{signed, magnitude, value}
+use Rattle.doubles.specs.Value.{signed, magnitude, value, NotNegative}
 use Rattle.doubles.proofs.ValueLaws.{value-of, zero-value, round-zero}
 use Rattle.doubles.proofs.OperationLaws.{Fractions, operands}
-
--- no NaN, not -∞, and if finite not below 0
-abbrev pub NotNegative : Format → Float → Type 0
-NotNegative f nan = ⊥
-NotNegative f (inf s) = T (not s)
-NotNegative f (fin s m e) = value f (fin s m e) .less ≡ 0
 
 -- ---- what `round` gives
 value-not-negative : (f : Format) (x : Float) (a : ℕ) → HasValue x false a (2 ^ low f) → NotNegative f x

@@ -2,6 +2,7 @@
 pub mod Operators
 pub mod Constants
 pub mod Functions
+pub mod Splitting
 pub mod Exact
 pub mod Signed
 pub mod Value

@@ -1,10 +1,13 @@
 -- The exact value of a finite float of either format: a whole number of its format's smallest positive value, 2 ^ -low, which is 2 ^ -1074 for an f64.
 -- These whole numbers are called units below. A NaN and an infinity have the value 0, and no law says more of it. Definitions only.
 use Prim.Native.Nat.{ℕ, _*_, _/_, _^_}
-use mathlib.Core.Bool.{Bool, true, false}
+use mathlib.Core.Path.{_≡_}
+use mathlib.Core.Bool.{Bool, true, false, not}
 use lib.Dec.{T}
 use lib.Ieee.{Float, nan, inf, fin, Format, binary64, low, up, down, fits}
 use lib.Ieee.Scale.{finite}
+use Rattle.doubles.specs.Operators.{_≤ᶠ_}
+use Rattle.doubles.specs.Constants.{0ᶠ}
 use Rattle.doubles.specs.Signed.{Signed, zeroˢ}
 
 -- n, or -n where the sign is set
@@ -24,6 +27,12 @@ value f nan = zeroˢ
 value f (inf s) = zeroˢ
 value f (fin s m e) = signed s (magnitude f (fin s m e))
 
+-- no NaN, not -∞, and if finite not below 0
+abbrev pub NotNegative : Format → Float → Type 0
+NotNegative f nan = ⊥
+NotNegative f (inf s) = T (not s)
+NotNegative f (fin s m e) = value f (fin s m e) .less ≡ 0
+
 -- ---- at binary64
 
 -- the value of a double, in units of 2 ^ -1074
@@ -36,3 +45,7 @@ Fits x = T (fits binary64 x)
 
 abbrev pub Finite : Float → Type 0
 Finite x = T (finite x)
+
+-- at least 0: +∞ and -0 are, a NaN isn't
+abbrev pub AtLeastZero : Float → Type 0
+AtLeastZero x = (0ᶠ ≤ᶠ x) ≡ true

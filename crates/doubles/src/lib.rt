@@ -1,7 +1,20 @@
 // Small functions on doubles. The crate's larger part is in specs/ and proofs/: exact values of doubles and rounding errors.
 ghost use mathlib.Core.Path.{_≡_};
 ghost use lib.Ieee.Scale.{finite};
+ghost use Rattle.doubles.specs.Constants.{eps};
 ghost use Rattle.doubles.specs.Functions.{absᶠ, minᶠ, maxᶠ};
+
+mod splitting; // splitting.rt: a double's leading digits
+
+pub use splitting::leading_digits;
+
+// f64::EPSILON, document 01's EPS: 2^-52.
+pub const EPSILON: f64 = 2.220446049250313e-16;
+
+// The constant of the code is that of the definitions.
+pub fn constants()
+    ensures { λ _. do e ← ⟦EPSILON⟧ .entry; ⌜ e ≡ eps ⌝ }
+{}
 
 // As Rust's `abs`: the sign is cleared, also that of -0. (0 - x is +0 for either zero.)
 pub fn abs(x: f64) -> f64

@@ -12,8 +12,8 @@ use lib.Ieee.{Float, nan, inf, fin, binary64, up, down}
 use lib.Ieee.Fits.{down-pos}
 use lib.Ieee.Exact.{HasValue}
 use Rattle.elementary.specs.Nearest.{Real, isGe, Monotone, Bounded, nearestTo}
-use Rattle.elementary.specs.Reals.{cosineReal}
-use Rattle.elementary.specs.Functions.{cosineOf}
+use Rattle.elementary.specs.Reals.{thirdAngleCosineReal}
+use Rattle.elementary.specs.Functions.{thirdAngleCosineOf}
 use Rattle.elementary.proofs.Order.{said, ge→le, square-le, square-lt}
 use Rattle.elementary.proofs.Fractions.{cosine-fraction}
 
@@ -39,7 +39,7 @@ onRight s a O = cond s (a * O * O * O) 0
 abbrev sides : ℕ → Bool → ℕ → ℕ → Real
 sides O s a b n = compare (3 * n * O * O * b + onLeft s a O) (4 * n * n * n * b + onRight s a O)
 
-pub cosine-monotone : (one : ℕ) (s : Bool) (a b : ℕ) → 0 < b → Monotone (cosineReal one s a b)
+pub cosine-monotone : (one : ℕ) (s : Bool) (a b : ℕ) → 0 < b → Monotone (thirdAngleCosineReal one s a b)
 cosine-monotone O s a b pos-b m n h l = elim (decLe O (2 * m)) [
   | yes g ↦
       let gn : O ≤ 2 * n = omega arith in
@@ -73,14 +73,14 @@ module _ (O : ℕ) (a b : ℕ) (pos-b : 0 < b) (most : a ≤ b) (n : ℕ) (h : O
       let c = cubes in
       said Ordering·lt (3 * n * O * O * b + 0) (4 * n * n * n * b + a * O * O * O) (omega arith)
 
-pub cosine-bounded : (one : ℕ) (s : Bool) (a b d : ℕ) → 0 < one → 0 < b → a ≤ b → one < 2 ^ d → Bounded (cosineReal one s a b) d
+pub cosine-bounded : (one : ℕ) (s : Bool) (a b d : ℕ) → 0 < one → 0 < b → a ≤ b → one < 2 ^ d → Bounded (thirdAngleCosineReal one s a b) d
 cosine-bounded O s a b d pos-o pos-b most h = record {
   monotone = cosine-monotone O s a b pos-b;
   nonneg = subst (λ (t : Bool). T (isGe (cond t Ordering·gt (sides O s a b 0)))) (sym (lt-ltb 0 O pos-o)) tt;
   bound = cond-false (ltb (2 * 2 ^ d) O) Ordering·gt (sides O s a b (2 ^ d)) (le-ltb (2 * 2 ^ d) O (let z : O ≤ 2 * 2 ^ d = omega arith in z)) ∙ above-one O a b pos-b most (2 ^ d) h s;
 }
 
-pub cosine-double-bounded : (s : Bool) (a b : ℕ) → 0 < b → a ≤ b → Bounded (cosineReal (2 ^ 1075) s a b) 1077
+pub cosine-double-bounded : (s : Bool) (a b : ℕ) → 0 < b → a ≤ b → Bounded (thirdAngleCosineReal (2 ^ 1075) s a b) 1077
 cosine-double-bounded s a b p h = cosine-bounded (2 ^ 1075) s a b 1077 (pow-pos 1075) p h (lit< tt)
 
 -- ---- the function at a value
@@ -92,18 +92,18 @@ size-le x y a b p e h = le-of-mul-le-mul-right (le-trans (le-of-eq e) (le-trans 
 pub size-lt : (x y a b : ℕ) → 0 < y → x * b ≡ a * y → b < a → y < x
 size-lt x y a b p e h = lt-of-mul-lt-mul-right b (lt-of-le-of-lt (le-of-eq (mul-comm y b)) (lt-of-lt-of-le (mul-lt-mul-of-pos-right h p) (le-of-eq (sym e))))
 
-pub cosine-of-value : (t : Float) (s : Bool) (a b : ℕ) → HasValue t s a b → 0 < b → a ≤ b → cosineOf t ≡ nearestTo binary64 false (cosineReal (2 ^ 1075) s a b) 1077
-unfolding cosineOf
+pub cosine-of-value : (t : Float) (s : Bool) (a b : ℕ) → HasValue t s a b → 0 < b → a ≤ b → thirdAngleCosineOf t ≡ nearestTo binary64 false (thirdAngleCosineReal (2 ^ 1075) s a b) 1077
+unfolding thirdAngleCosineOf
 cosine-of-value nan s a b h p l = absurd h
 cosine-of-value (inf u) s a b h p l = absurd h
 cosine-of-value (fin u m e) s a b h p l =
-    ap (λ (y : Bool). cond y (nearestTo binary64 false (cosineReal (2 ^ 1075) u (m * up e) (down e)) 1077) nan) (le-leb (m * up e) (down e) (size-le (m * up e) (down e) a b p (h .1) l))
-    ∙ ap (λ (y : Bool). nearestTo binary64 false (cosineReal (2 ^ 1075) y (m * up e) (down e)) 1077) (h .0)
+    ap (λ (y : Bool). cond y (nearestTo binary64 false (thirdAngleCosineReal (2 ^ 1075) u (m * up e) (down e)) 1077) nan) (le-leb (m * up e) (down e) (size-le (m * up e) (down e) a b p (h .1) l))
+    ∙ ap (λ (y : Bool). nearestTo binary64 false (thirdAngleCosineReal (2 ^ 1075) y (m * up e) (down e)) 1077) (h .0)
     ∙ (λ i. nearestTo binary64 false (λ (n : ℕ). cosine-fraction (2 ^ 1075) (m * up e) (down e) a b (down-pos e) p (h .1) n s i) 1077)
 
-pub cosine-outside : (t : Float) (s : Bool) (a b : ℕ) → HasValue t s a b → b < a → cosineOf t ≡ nan
-unfolding cosineOf
+pub cosine-outside : (t : Float) (s : Bool) (a b : ℕ) → HasValue t s a b → b < a → thirdAngleCosineOf t ≡ nan
+unfolding thirdAngleCosineOf
 cosine-outside nan s a b h l = absurd h
 cosine-outside (inf u) s a b h l = absurd h
 cosine-outside (fin u m e) s a b h l =
-    ap (λ (y : Bool). cond y (nearestTo binary64 false (cosineReal (2 ^ 1075) u (m * up e) (down e)) 1077) nan) (lt-leb (m * up e) (down e) (size-lt (m * up e) (down e) a b (down-pos e) (h .1) l))
+    ap (λ (y : Bool). cond y (nearestTo binary64 false (thirdAngleCosineReal (2 ^ 1075) u (m * up e) (down e)) 1077) nan) (lt-leb (m * up e) (down e) (size-lt (m * up e) (down e) a b (down-pos e) (h .1) l))

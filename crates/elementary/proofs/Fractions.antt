@@ -7,7 +7,7 @@ use native.Mathlib.Omega.{arith}
 use mathlib.Core.Bool.{Bool, true, false, cond}
 use lib.Dec.{ltb}
 use borrow.Author.Tests.{lt-ltb, le-ltb}
-use Rattle.elementary.specs.Reals.{sqrtReal, cbrtReal, cosineReal, sineReal, sineSides, opposite}
+use Rattle.elementary.specs.Reals.{sqrtReal, cbrtReal, thirdAngleCosineReal, thirdAngleSineReal, sineSides, opposite}
 use Rattle.elementary.proofs.Order.{compare-scaled}
 
 -- ---- the same fraction
@@ -48,7 +48,7 @@ module _ (one a b c d : ℕ) (pb : 0 < b) (pd : 0 < d) (e : a * d ≡ c * b) (n 
       with-t : a * d * (one * one * one) ≡ c * b * (one * one * one) → (4 * n * n * n * b + a * one * one * one) * d ≡ (4 * n * n * n * d + c * one * one * one) * b
       with-t h = omega arith
 
-  pub cosine-fraction : (s : Bool) → cosineReal one s a b n ≡ cosineReal one s c d n
+  pub cosine-fraction : (s : Bool) → thirdAngleCosineReal one s a b n ≡ thirdAngleCosineReal one s c d n
   cosine-fraction s = ap (λ (o : Ordering). cond (ltb (2 * n) one) Ordering·gt o) (cosine-sides s)
 
   -- the sine's sides, with G and H for what stands beside b² and C for one⁶
@@ -64,7 +64,7 @@ module _ (one a b c d : ℕ) (pb : 0 < b) (pd : 0 < d) (e : a * d ≡ c * b) (n 
   sides-fraction : (Q : ℕ) → sineSides Q a b n ≡ sineSides Q c d n
   sides-fraction Q = squared-fraction (Q * Q * Q + 24 * (n * n) * (n * n) * Q) (16 * (n * n) * (n * n) * (n * n) + 9 * (n * n) * Q * Q) (Q * Q * Q)
 
-  pub sine-fraction : (s : Bool) → sineReal one s a b n ≡ sineReal one s c d n
+  pub sine-fraction : (s : Bool) → thirdAngleSineReal one s a b n ≡ thirdAngleSineReal one s c d n
   sine-fraction false = ap (λ (o : Ordering). cond (ltb one (2 * n)) Ordering·lt o) (sides-fraction (one * one))
   sine-fraction true = ap (λ (o : Ordering). cond (ltb (2 * n) one) Ordering·gt (cond (ltb (3 * (one * one)) (4 * (n * n))) Ordering·lt (opposite o))) (sides-fraction (one * one))
 
@@ -100,7 +100,7 @@ module _ (k : ℕ) (pk : 0 < k) (one a b n : ℕ) where
       (let z : 4 * (n * k) * (n * k) * (n * k) * b + u * (k * k * k) ≡ (4 * n * n * n * b + u) * (k * k * k) = omega arith in z)
       ∙ compare-scaled (k * k * k) (3 * n * one * one * b + t) (4 * n * n * n * b + u) cubed-pos
 
-  pub cosine-scale : (s : Bool) → cosineReal (one * k) s a b (n * k) ≡ cosineReal one s a b n
+  pub cosine-scale : (s : Bool) → thirdAngleCosineReal (one * k) s a b (n * k) ≡ thirdAngleCosineReal one s a b n
   cosine-scale s = ap₂ (λ (t : Bool) (o : Ordering). cond t Ordering·gt o) half-test (sides s)
     where
       t-scaled : a * (one * k) * (one * k) * (one * k) ≡ a * one * one * one * (k * k * k)
@@ -137,7 +137,7 @@ module _ (k : ℕ) (pk : 0 < k) (one a b n : ℕ) where
       ap₂ (λ (Q q : ℕ). compare ((Q * Q * Q + 24 * q * q * Q) * (b * b)) ((16 * q * q * q + 9 * q * Q * Q) * (b * b) + a * a * (Q * Q * Q))) (square one) (square n)
       ∙ sides-scale (k * k) (one * one) (n * n) (mul-pos pk pk)
 
-  pub sine-scale : (s : Bool) → sineReal (one * k) s a b (n * k) ≡ sineReal one s a b n
+  pub sine-scale : (s : Bool) → thirdAngleSineReal (one * k) s a b (n * k) ≡ thirdAngleSineReal one s a b n
   sine-scale false =
       ap₂ (λ (t : Bool) (o : Ordering). cond t Ordering·lt o)
       (ltb-scaled k (one * k) (2 * (n * k)) one (2 * n) pk (let z : one * k ≡ one * k = omega arith in z) (let z : 2 * (n * k) ≡ 2 * n * k = omega arith in z))

@@ -10,7 +10,7 @@ use mathlib.Core.Bool.{Bool, true, false, cond}
 use lib.Dec.{T, ltb, isLe, leb→le}
 use borrow.Author.Tests.{ltb-true, ltb-false}
 use Rattle.elementary.specs.Nearest.{isGe, AtMost, AtLeast}
-use Rattle.elementary.specs.Reals.{cosineReal, sineReal, sineSides, opposite}
+use Rattle.elementary.specs.Reals.{thirdAngleCosineReal, thirdAngleSineReal, sineSides, opposite}
 use Rattle.elementary.proofs.Order.{ge→le, opposite-ge, opposite-le, square-le, square-lt}
 use Rattle.elementary.proofs.Sine.{right, factor, shrinks}
 
@@ -124,7 +124,7 @@ module _ (O A B : ℕ) (pos-o : 0 < O) (pos-b : 0 < B) where
 
   -- ---- t from 0 to 1
 
-  at-most-one : (m n : ℕ) → T (isGe (cosineReal O false A B m)) → T (isGe (sineReal O false A B n)) → m * m + n * n ≤ O * O
+  at-most-one : (m n : ℕ) → T (isGe (thirdAngleCosineReal O false A B m)) → T (isGe (thirdAngleSineReal O false A B n)) → m * m + n * n ≤ O * O
   at-most-one m n c s = elim (decLe (m * m + n * n) (O * O)) [
     | yes h ↦ h
     | no f ↦ absurd (go (lt-of-not-le f) (lt-most (ltb O (2 * n)) (sineSides (O * O) A B n) s))
@@ -146,7 +146,7 @@ module _ (O A B : ℕ) (pos-o : 0 < O) (pos-b : 0 < B) where
                 (squared-le m w (cos-le m w e (ge→le (3 * m * O * O * B + A * O * O * O) (4 * m * m * m * B + 0) (p .1))))
           ]
 
-  at-least-one : (m n : ℕ) → T (isLe (cosineReal O false A B m)) → T (isLe (sineReal O false A B n)) → O * O ≤ m * m + n * n
+  at-least-one : (m n : ℕ) → T (isLe (thirdAngleCosineReal O false A B m)) → T (isLe (thirdAngleSineReal O false A B n)) → O * O ≤ m * m + n * n
   at-least-one m n c s = elim (decLe (O * O) (m * m + n * n)) [
     | yes h ↦ h
     | no f ↦ absurd (go (lt-of-not-le f) (gt-least (ltb (2 * m) O) (compare (3 * m * O * O * B + A * O * O * O) (4 * m * m * m * B + 0)) c))
@@ -194,7 +194,7 @@ module _ (O A B : ℕ) (pos-o : 0 < O) (pos-b : 0 < B) where
   three-fourths : (m : ℕ) → O ≤ 2 * m → 4 * m * m * m * B + A * O * O * O ≤ 3 * m * O * O * B + 0 → 4 * (m * m) ≤ 3 * (O * O)
   three-fourths m o l = le-of-mul-le-mul-right (let z : 4 * (m * m) * (m * B) ≤ 3 * (O * O) * (m * B) = omega arith in z) (mul-pos (let z : 0 < m = omega arith in z) pos-b)
 
-  at-most-one-minus : (m n : ℕ) → T (isGe (cosineReal O true A B m)) → T (isGe (sineReal O true A B n)) → m * m + n * n ≤ O * O
+  at-most-one-minus : (m n : ℕ) → T (isGe (thirdAngleCosineReal O true A B m)) → T (isGe (thirdAngleSineReal O true A B n)) → m * m + n * n ≤ O * O
   at-most-one-minus m n c s = elim (decLe (m * m + n * n) (O * O)) [
     | yes h ↦ h
     | no f ↦ absurd (go (lt-of-not-le f) (gt-most (ltb (2 * m) O) (compare (3 * m * O * O * B + 0) (4 * m * m * m * B + A * O * O * O)) c) (gt-most (ltb (2 * n) O) (cond (ltb (3 * (O * O)) (4 * (n * n))) Ordering·lt (opposite (sineSides (O * O) A B n))) s))
@@ -225,7 +225,7 @@ module _ (O A B : ℕ) (pos-o : 0 < O) (pos-b : 0 < B) where
           let pr : x * (v * v) * (B * B) ≤ A * A * (O * O * (O * O) * (O * O)) = above-product (x * (v * v)) (16 * (n * n) * (n * n) * (n * n) + 9 * (n * n) * (O * O) * (O * O)) (O * O * (O * O) * (O * O) + 24 * (n * n) * (n * n) * (O * O)) (B * B) (A * A * (O * O * (O * O) * (O * O))) (subst (λ (q : ℕ). x * (v * v) + (16 * (n * n) * (n * n) * (n * n) + 9 * (n * n) * q * q) ≡ q * q * q + 24 * (n * n) * (n * n) * q) ex (split-over x (n * n) v (omega arith))) sides in
           falling (O * O) x (m * m) v w pos-Q (omega arith) (omega arith) ev ew (le-of-mul-le-mul-right (le-trans pr (squared-ge m w (cos-le-minus m w ew (tests a)))) (mul-pos pos-b pos-b))
 
-  at-least-one-minus : (m n : ℕ) → T (isLe (cosineReal O true A B m)) → T (isLe (sineReal O true A B n)) → O * O ≤ m * m + n * n
+  at-least-one-minus : (m n : ℕ) → T (isLe (thirdAngleCosineReal O true A B m)) → T (isLe (thirdAngleSineReal O true A B n)) → O * O ≤ m * m + n * n
   at-least-one-minus m n c s = elim (decLe (O * O) (m * m + n * n)) [
     | yes h ↦ h
     | no f ↦
@@ -250,10 +250,10 @@ module _ (O A B : ℕ) (pos-o : 0 < O) (pos-b : 0 < B) where
 
 -- ---- either sign
 
-pub squares-at-most : (one : ℕ) (s : Bool) (a b : ℕ) → 0 < one → 0 < b → (m n : ℕ) → AtMost m (cosineReal one s a b) → AtMost n (sineReal one s a b) → m * m + n * n ≤ one * one
+pub squares-at-most : (one : ℕ) (s : Bool) (a b : ℕ) → 0 < one → 0 < b → (m n : ℕ) → AtMost m (thirdAngleCosineReal one s a b) → AtMost n (thirdAngleSineReal one s a b) → m * m + n * n ≤ one * one
 squares-at-most one false a b o p m n c s = at-most-one one a b o p m n c s
 squares-at-most one true a b o p m n c s = at-most-one-minus one a b o p m n c s
 
-pub squares-at-least : (one : ℕ) (s : Bool) (a b : ℕ) → 0 < one → 0 < b → (m n : ℕ) → AtLeast m (cosineReal one s a b) → AtLeast n (sineReal one s a b) → one * one ≤ m * m + n * n
+pub squares-at-least : (one : ℕ) (s : Bool) (a b : ℕ) → 0 < one → 0 < b → (m n : ℕ) → AtLeast m (thirdAngleCosineReal one s a b) → AtLeast n (thirdAngleSineReal one s a b) → one * one ≤ m * m + n * n
 squares-at-least one false a b o p m n c s = at-least-one one a b o p m n c s
 squares-at-least one true a b o p m n c s = at-least-one-minus one a b o p m n c s

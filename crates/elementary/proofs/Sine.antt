@@ -12,8 +12,8 @@ use lib.Ieee.{Float, nan, inf, fin, binary64, up, down}
 use lib.Ieee.Fits.{down-pos}
 use lib.Ieee.Exact.{HasValue}
 use Rattle.elementary.specs.Nearest.{Real, isGe, Monotone, Bounded, nearestTo}
-use Rattle.elementary.specs.Reals.{sineReal, opposite}
-use Rattle.elementary.specs.Functions.{sineOf}
+use Rattle.elementary.specs.Reals.{thirdAngleSineReal, opposite}
+use Rattle.elementary.specs.Functions.{thirdAngleSineOf}
 use Rattle.elementary.proofs.Order.{said, ge→le, le→ge, opposite-ge, square-le, square-lt}
 use Rattle.elementary.proofs.Cosine.{cond-false, size-le, size-lt}
 use Rattle.elementary.proofs.Fractions.{sine-fraction}
@@ -128,15 +128,15 @@ module _ (O a b : ℕ) (pos-o : 0 < O) (pos-b : 0 < b) (m n : ℕ) (h : m < n) w
     | no g ↦ ap (λ (x : Bool). cond x Ordering·gt (upper O a b m)) (lt-ltb (2 * m) O (lt-of-not-le g))
   ]
 
-pub sine-monotone : (one : ℕ) (s : Bool) (a b : ℕ) → 0 < one → 0 < b → Monotone (sineReal one s a b)
+pub sine-monotone : (one : ℕ) (s : Bool) (a b : ℕ) → 0 < one → 0 < b → Monotone (thirdAngleSineReal one s a b)
 sine-monotone O false a b o p m n h l = mono-positive O a b o p m n h l
 sine-monotone O true a b o p m n h l = mono-negative O a b o p m n h l
 
 -- for a t of at most 1 in size
-pub sine-bounded : (one : ℕ) (s : Bool) (a b d : ℕ) → 0 < one → 0 < b → a ≤ b → one < 2 ^ d → Bounded (sineReal one s a b) d
+pub sine-bounded : (one : ℕ) (s : Bool) (a b d : ℕ) → 0 < one → 0 < b → a ≤ b → one < 2 ^ d → Bounded (thirdAngleSineReal one s a b) d
 sine-bounded O s a b d pos-o pos-b most h = record { monotone = sine-monotone O s a b pos-o pos-b; nonneg = zero-at-most s; bound = high s }
   where
-    zero-at-most : (s : Bool) → T (isGe (sineReal O s a b 0))
+    zero-at-most : (s : Bool) → T (isGe (thirdAngleSineReal O s a b 0))
     zero-at-most false =
         subst (λ (t : Bool). T (isGe (cond t Ordering·lt (both (O * O) a b 0)))) (sym (le-ltb O 0 (let z : 0 ≤ O = omega arith in z)))
         (le→ge (left (O * O) 0 * (b * b)) (right (O * O) 0 * (b * b) + a * a * (O * O * (O * O) * (O * O))) (let q : a * a * (O * O * (O * O) * (O * O)) ≤ b * b * (O * O * (O * O) * (O * O)) = mul-le-mul-right (O * O * (O * O) * (O * O)) (square-le a b most) in ordered (O * O) (b * b) (a * a * (O * O * (O * O) * (O * O))) q))
@@ -145,7 +145,7 @@ sine-bounded O s a b d pos-o pos-b most h = record { monotone = sine-monotone O 
         ordered Q B A h = omega arith
     zero-at-most true = subst (λ (t : Bool). T (isGe (cond t Ordering·gt (upper O a b 0)))) (sym (lt-ltb 0 O pos-o)) tt
 
-    high : (s : Bool) → sineReal O s a b (2 ^ d) ≡ Ordering·lt
+    high : (s : Bool) → thirdAngleSineReal O s a b (2 ^ d) ≡ Ordering·lt
     high false = ap (λ (t : Bool). cond t Ordering·lt (both (O * O) a b (2 ^ d))) (lt-ltb O (2 * 2 ^ d) (let z : O < 2 * 2 ^ d = omega arith in z))
     high true =
         cond-false (ltb (2 * 2 ^ d) O) Ordering·gt (upper O a b (2 ^ d)) (le-ltb (2 * 2 ^ d) O (let z : O ≤ 2 * 2 ^ d = omega arith in z))
@@ -154,23 +154,23 @@ sine-bounded O s a b d pos-o pos-b most h = record { monotone = sine-monotone O 
         larger : (x y : ℕ) → x < y → 3 * x < 4 * y
         larger x y h = omega arith
 
-pub sine-double-bounded : (s : Bool) (a b : ℕ) → 0 < b → a ≤ b → Bounded (sineReal (2 ^ 1075) s a b) 1077
+pub sine-double-bounded : (s : Bool) (a b : ℕ) → 0 < b → a ≤ b → Bounded (thirdAngleSineReal (2 ^ 1075) s a b) 1077
 sine-double-bounded s a b p h = sine-bounded (2 ^ 1075) s a b 1077 (pow-pos 1075) p h (lit< tt)
 
 -- ---- the function at a value
 
-pub sine-of-value : (t : Float) (s : Bool) (a b : ℕ) → HasValue t s a b → 0 < b → a ≤ b → sineOf t ≡ nearestTo binary64 false (sineReal (2 ^ 1075) s a b) 1077
-unfolding sineOf
+pub sine-of-value : (t : Float) (s : Bool) (a b : ℕ) → HasValue t s a b → 0 < b → a ≤ b → thirdAngleSineOf t ≡ nearestTo binary64 false (thirdAngleSineReal (2 ^ 1075) s a b) 1077
+unfolding thirdAngleSineOf
 sine-of-value nan s a b h p l = absurd h
 sine-of-value (inf u) s a b h p l = absurd h
 sine-of-value (fin u m e) s a b h p l =
-    ap (λ (y : Bool). cond y (nearestTo binary64 false (sineReal (2 ^ 1075) u (m * up e) (down e)) 1077) nan) (le-leb (m * up e) (down e) (size-le (m * up e) (down e) a b p (h .1) l))
-    ∙ ap (λ (y : Bool). nearestTo binary64 false (sineReal (2 ^ 1075) y (m * up e) (down e)) 1077) (h .0)
+    ap (λ (y : Bool). cond y (nearestTo binary64 false (thirdAngleSineReal (2 ^ 1075) u (m * up e) (down e)) 1077) nan) (le-leb (m * up e) (down e) (size-le (m * up e) (down e) a b p (h .1) l))
+    ∙ ap (λ (y : Bool). nearestTo binary64 false (thirdAngleSineReal (2 ^ 1075) y (m * up e) (down e)) 1077) (h .0)
     ∙ (λ i. nearestTo binary64 false (λ (n : ℕ). sine-fraction (2 ^ 1075) (m * up e) (down e) a b (down-pos e) p (h .1) n s i) 1077)
 
-pub sine-outside : (t : Float) (s : Bool) (a b : ℕ) → HasValue t s a b → b < a → sineOf t ≡ nan
-unfolding sineOf
+pub sine-outside : (t : Float) (s : Bool) (a b : ℕ) → HasValue t s a b → b < a → thirdAngleSineOf t ≡ nan
+unfolding thirdAngleSineOf
 sine-outside nan s a b h l = absurd h
 sine-outside (inf u) s a b h l = absurd h
 sine-outside (fin u m e) s a b h l =
-    ap (λ (y : Bool). cond y (nearestTo binary64 false (sineReal (2 ^ 1075) u (m * up e) (down e)) 1077) nan) (lt-leb (m * up e) (down e) (size-lt (m * up e) (down e) a b (down-pos e) (h .1) l))
+    ap (λ (y : Bool). cond y (nearestTo binary64 false (thirdAngleSineReal (2 ^ 1075) u (m * up e) (down e)) 1077) nan) (lt-leb (m * up e) (down e) (size-lt (m * up e) (down e) a b (down-pos e) (h .1) l))

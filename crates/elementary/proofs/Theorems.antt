@@ -10,8 +10,8 @@ use lib.Ieee.Exact.{HasValue}
 use lib.Ieee.Fits.{down-pos, and-r}
 use Rattle.bits.proofs.Patterns.{value-unique}
 use Rattle.elementary.specs.Nearest.{Real, Bounded, Nearest, NearestDouble, nearestUnits, nearestTo}
-use Rattle.elementary.specs.Reals.{sqrtReal, cbrtReal, cosineReal, sineReal}
-use Rattle.elementary.specs.Functions.{sqrtOf, cbrtOf, cosineOf, sineOf}
+use Rattle.elementary.specs.Reals.{sqrtReal, cbrtReal, thirdAngleCosineReal, thirdAngleSineReal}
+use Rattle.elementary.specs.Functions.{sqrtOf, cbrtOf, thirdAngleCosineOf, thirdAngleSineOf}
 use Rattle.elementary.proofs.Nearest.{nearest-any-width, nearest-unique, nearest-value}
 use Rattle.elementary.proofs.Roots.{sqrt-bounded, cbrt-bounded, sqrt-double-bounded, cbrt-double-bounded, sqrt-of-value, cbrt-of-value, no-zero}
 use Rattle.elementary.proofs.Cosine.{cosine-bounded, cosine-double-bounded, cosine-of-value}
@@ -26,11 +26,11 @@ module _ (p : ℕ) (some : 0 < p) (one a b d : ℕ) (pos-b : 0 < b) where
   pub cbrt-nearest : a * (one * one * one) < 2 ^ d * 2 ^ d * 2 ^ d * b → Nearest p (cbrtReal one a b) (nearestUnits p (cbrtReal one a b) d)
   cbrt-nearest h = nearest-any-width p some (cbrtReal one a b) d (cbrt-bounded one a b d pos-b h)
 
-  pub cosine-nearest : (s : Bool) → 0 < one → one < 2 ^ d → a ≤ b → Nearest p (cosineReal one s a b) (nearestUnits p (cosineReal one s a b) d)
-  cosine-nearest s o h l = nearest-any-width p some (cosineReal one s a b) d (cosine-bounded one s a b d o pos-b l h)
+  pub cosine-nearest : (s : Bool) → 0 < one → one < 2 ^ d → a ≤ b → Nearest p (thirdAngleCosineReal one s a b) (nearestUnits p (thirdAngleCosineReal one s a b) d)
+  cosine-nearest s o h l = nearest-any-width p some (thirdAngleCosineReal one s a b) d (cosine-bounded one s a b d o pos-b l h)
 
-  pub sine-nearest : (s : Bool) → 0 < one → one < 2 ^ d → a ≤ b → Nearest p (sineReal one s a b) (nearestUnits p (sineReal one s a b) d)
-  sine-nearest s o h l = nearest-any-width p some (sineReal one s a b) d (sine-bounded one s a b d o pos-b l h)
+  pub sine-nearest : (s : Bool) → 0 < one → one < 2 ^ d → a ≤ b → Nearest p (thirdAngleSineReal one s a b) (nearestUnits p (thirdAngleSineReal one s a b) d)
+  sine-nearest s o h l = nearest-any-width p some (thirdAngleSineReal one s a b) d (sine-bounded one s a b d o pos-b l h)
 
 -- ---- doubles
 
@@ -60,8 +60,8 @@ pub cbrt-nearest-double : (x : Float) (s : Bool) (a b : ℕ) → T (fits binary6
 cbrt-nearest-double x s a b f h p q = by-definition (cbrtOf x) s (cbrtReal (2 ^ 1075) a b) 1600 (cbrt-of-value x s a b h p q) (cbrt-double-bounded a b q (in-range x s a b f h p q)) (lit< tt)
 
 -- a number t of the value ±a / b, from -1 to 1
-pub cosine-nearest-double : (t : Float) (s : Bool) (a b : ℕ) → HasValue t s a b → 0 < b → a ≤ b → NearestDouble (cosineOf t) false (cosineReal (2 ^ 1075) s a b)
-cosine-nearest-double t s a b h q l = by-definition (cosineOf t) false (cosineReal (2 ^ 1075) s a b) 1077 (cosine-of-value t s a b h q l) (cosine-double-bounded s a b q l) (lit< tt)
+pub cosine-nearest-double : (t : Float) (s : Bool) (a b : ℕ) → HasValue t s a b → 0 < b → a ≤ b → NearestDouble (thirdAngleCosineOf t) false (thirdAngleCosineReal (2 ^ 1075) s a b)
+cosine-nearest-double t s a b h q l = by-definition (thirdAngleCosineOf t) false (thirdAngleCosineReal (2 ^ 1075) s a b) 1077 (cosine-of-value t s a b h q l) (cosine-double-bounded s a b q l) (lit< tt)
 
-pub sine-nearest-double : (t : Float) (s : Bool) (a b : ℕ) → HasValue t s a b → 0 < b → a ≤ b → NearestDouble (sineOf t) false (sineReal (2 ^ 1075) s a b)
-sine-nearest-double t s a b h q l = by-definition (sineOf t) false (sineReal (2 ^ 1075) s a b) 1077 (sine-of-value t s a b h q l) (sine-double-bounded s a b q l) (lit< tt)
+pub sine-nearest-double : (t : Float) (s : Bool) (a b : ℕ) → HasValue t s a b → 0 < b → a ≤ b → NearestDouble (thirdAngleSineOf t) false (thirdAngleSineReal (2 ^ 1075) s a b)
+sine-nearest-double t s a b h q l = by-definition (thirdAngleSineOf t) false (thirdAngleSineReal (2 ^ 1075) s a b) 1077 (sine-of-value t s a b h q l) (sine-double-bounded s a b q l) (lit< tt)

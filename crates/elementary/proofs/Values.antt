@@ -1,7 +1,7 @@
 -- Worked values of the four functions, by computation. Assumes nothing.
 use mathlib.Core.Path.{_≡_, refl}
 use lib.Ieee.{nan, binary64, ofBits}
-use Rattle.elementary.specs.Functions.{sqrtOf, cbrtOf, cosineOf, sineOf}
+use Rattle.elementary.specs.Functions.{sqrtOf, cbrtOf, thirdAngleCosineOf, thirdAngleSineOf}
 
 -- √9 = 3
 pub sqrt-nine : sqrtOf (ofBits binary64 0x4022_0000_0000_0000) ≡ ofBits binary64 0x4008_0000_0000_0000
@@ -22,19 +22,19 @@ unfolding cbrtOf ofBits
 cbrt-minus-27 = refl
 
 -- t = 1: the cosine is 1, the sine 0
-pub cosine-one : cosineOf (ofBits binary64 0x3FF0_0000_0000_0000) ≡ ofBits binary64 0x3FF0_0000_0000_0000
-unfolding cosineOf ofBits
+pub cosine-one : thirdAngleCosineOf (ofBits binary64 0x3FF0_0000_0000_0000) ≡ ofBits binary64 0x3FF0_0000_0000_0000
+unfolding thirdAngleCosineOf ofBits
 cosine-one = refl
 
-pub sine-one : sineOf (ofBits binary64 0x3FF0_0000_0000_0000) ≡ ofBits binary64 0
-unfolding sineOf ofBits
+pub sine-one : thirdAngleSineOf (ofBits binary64 0x3FF0_0000_0000_0000) ≡ ofBits binary64 0
+unfolding thirdAngleSineOf ofBits
 sine-one = refl
 
 -- t = -1: the cosine is 1/2, the sine SIN_120, the double nearest to √3 / 2
-pub cosine-minus-one : cosineOf (ofBits binary64 0xBFF0_0000_0000_0000) ≡ ofBits binary64 0x3FE0_0000_0000_0000
-unfolding cosineOf ofBits
+pub cosine-minus-one : thirdAngleCosineOf (ofBits binary64 0xBFF0_0000_0000_0000) ≡ ofBits binary64 0x3FE0_0000_0000_0000
+unfolding thirdAngleCosineOf ofBits
 cosine-minus-one = refl
 
-pub sine-minus-one : sineOf (ofBits binary64 0xBFF0_0000_0000_0000) ≡ ofBits binary64 0x3FEB_B67A_E858_4CAA
-unfolding sineOf ofBits
+pub sine-minus-one : thirdAngleSineOf (ofBits binary64 0xBFF0_0000_0000_0000) ≡ ofBits binary64 0x3FEB_B67A_E858_4CAA
+unfolding thirdAngleSineOf ofBits
 sine-minus-one = refl

@@ -5,7 +5,7 @@ use mathlib.Core.Bool.{false, cond}
 use lib.Dec.{leb}
 use lib.Ieee.{Float, nan, inf, fin, binary64, up, down}
 use Rattle.elementary.specs.Nearest.{nearestTo}
-use Rattle.elementary.specs.Reals.{sqrtReal, cbrtReal, cosineReal, sineReal}
+use Rattle.elementary.specs.Reals.{sqrtReal, cbrtReal, thirdAngleCosineReal, thirdAngleSineReal}
 
 -- IEEE 754's square root: -0 gives -0, other numbers below 0 give NaN
 unfoldable pub sqrtOf : Float → Float
@@ -24,15 +24,15 @@ cbrtOf (fin s zero e) = fin s zero e
 cbrtOf (fin s (suc m) e) = nearestTo binary64 s (cbrtReal (2 ^ 1075) (suc m * up e) (down e)) 1600
 
 -- the c from 1/2 to 1 with 4c³ - 3c = t, for t from -1 to 1, and NaN for other t
-unfoldable pub cosineOf : Float → Float
+unfoldable pub thirdAngleCosineOf : Float → Float
 unfolding nearestTo
-cosineOf nan = nan
-cosineOf (inf s) = nan
-cosineOf (fin s m e) = cond (leb (m * up e) (down e)) (nearestTo binary64 false (cosineReal (2 ^ 1075) s (m * up e) (down e)) 1077) nan
+thirdAngleCosineOf nan = nan
+thirdAngleCosineOf (inf s) = nan
+thirdAngleCosineOf (fin s m e) = cond (leb (m * up e) (down e)) (nearestTo binary64 false (thirdAngleCosineReal (2 ^ 1075) s (m * up e) (down e)) 1077) nan
 
 -- √(1 - c²) of the exact c, for t from -1 to 1, and NaN for other t
-unfoldable pub sineOf : Float → Float
+unfoldable pub thirdAngleSineOf : Float → Float
 unfolding nearestTo
-sineOf nan = nan
-sineOf (inf s) = nan
-sineOf (fin s m e) = cond (leb (m * up e) (down e)) (nearestTo binary64 false (sineReal (2 ^ 1075) s (m * up e) (down e)) 1077) nan
+thirdAngleSineOf nan = nan
+thirdAngleSineOf (inf s) = nan
+thirdAngleSineOf (fin s m e) = cond (leb (m * up e) (down e)) (nearestTo binary64 false (thirdAngleSineReal (2 ^ 1075) s (m * up e) (down e)) 1077) nan

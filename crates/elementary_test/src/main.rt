@@ -14,7 +14,7 @@ fn line(bytes: &[u8; 8], out: &mut [u8; 68]) -> usize
     ensures { λ r. ⌜ Counts r (now (out .exit)) ⌝ }
 {
     let x = double_at(bytes, 0);
-    let pair = third_angle::cosine_pair(x);
+    let pair = third_angle_pair::third_angle_pair(x);
     let others = [cbrt::cbrt(x), pair.cos, pair.sin];
     let root_end = put_hex(out, 0, sqrt::sqrt(x));
     let others_end = put_doubles(out, root_end, &others);

@@ -18,7 +18,7 @@ use Rattle.phase_times.specs.declared.constants.Constants.{Constants}
 use Rattle.trees.specs.Tree.{run}
 use Rattle.candidates.specs.Try.{passes}
 use Rattle.candidates.specs.declared.Candidates.{Candidates}
-use Rattle.position_third_step1.specs.Plan.{found}
+use Rattle.position_third_step1.specs.CheckTree.{found}
 use Rattle.position_third_step1.specs.TimeAllVel.{timeAllVel}
 use Rattle.position_third_step1.specs.TimeAcc0Acc1.{timeAcc0Acc1}
 use Rattle.position_third_step1.specs.TimeAllNoneAcc0Acc1.{timeAllNoneAcc0Acc1}

@@ -16,7 +16,7 @@ use Rattle.profile.specs.declared.Target.{Target}
 use Rattle.profile.specs.declared.Limits.{Limits}
 use Rattle.profile_check.specs.declared.Checked.{Checked}
 use Rattle.phase_times.specs.Constants.{constantsOf}
-use Rattle.phase_times.specs.GetProfileTests.{hasZeroLimit, endsAtRest, restsAtTarget}
+use Rattle.get_profile.specs.Choices.{hasZeroLimit, endsAtRest, restsAtTarget}
 use Rattle.phase_times.specs.TimeAllSingleStep.{startsMoving, startsAccelerated}
 use Rattle.phase_times.specs.declared.constants.Constants.{Constants}
 use Rattle.trees.specs.Tree.{run}
@@ -26,7 +26,7 @@ use Rattle.candidates.specs.Counted.{AcceptedOf, Sound}
 use Rattle.candidates.specs.declared.Candidates.{Candidates}
 use Rattle.candidates.proofs.CountLaws.{from-brake, from-accel}
 use Rattle.candidates.proofs.BoundaryLaws.{fresh-sound}
-use Rattle.position_third_step1.specs.Plan.{TryWith}
+use Rattle.position_third_step1.specs.CheckTree.{TryWith}
 use Rattle.position_third_step1.specs.TimeAllSingleStep.{timeAllSingleStep}
 use Rattle.position_third_step1.proofs.FamilyLaws.{found-sound, single-step-accepted}
 use Rattle.block.specs.Blocks.{duration, noInterval, intervalFrom, blockOf, emptyBlock, planned, refused}

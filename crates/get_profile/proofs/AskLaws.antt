@@ -9,7 +9,7 @@ use Rattle.profile.specs.declared.Start.{Start}
 use Rattle.profile.specs.declared.Target.{Target}
 use Rattle.profile.specs.declared.Limits.{Limits}
 use Rattle.phase_times.specs.Constants.{constantsOf}
-use Rattle.phase_times.specs.GetProfileTests.{hasZeroLimit, endsAtRest, restsAtTarget}
+use Rattle.get_profile.specs.Choices.{hasZeroLimit, endsAtRest, restsAtTarget}
 use Rattle.phase_times.specs.declared.constants.Constants.{Constants}
 use Rattle.trees.specs.Tree.{Tree, done, bind, questions, StopsAtYes}
 use Rattle.trees.specs.InTurn.{upTo}
@@ -18,7 +18,7 @@ use Rattle.trees.proofs.InTurnLaws.{asks-each, asks-up-to, up-to-end}
 use Rattle.candidates.specs.Try.{Try}
 use Rattle.candidates.specs.List.{added, freshList}
 use Rattle.candidates.specs.declared.Candidates.{Candidates}
-use Rattle.position_third_step1.specs.Plan.{tries}
+use Rattle.position_third_step1.specs.CheckTree.{tries}
 use Rattle.position_third_step1.specs.TimeAllVel.{allVelTries}
 use Rattle.position_third_step1.specs.TimeAcc0Acc1.{acc0Acc1Tries}
 use Rattle.position_third_step1.specs.TimeAllNoneAcc0Acc1.{noneAcc0Acc1Tries}

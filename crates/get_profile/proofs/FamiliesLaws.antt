@@ -10,7 +10,7 @@ use Rattle.trees.specs.Tree.{bind, run, questions, AtMost, ended, AllNo, Over, 
 use Rattle.trees.proofs.TreeLaws.{run-bind, questions-bind, all-no-bind, stops-bind, at-most-bind}
 use Rattle.candidates.specs.Try.{Try, passes}
 use Rattle.candidates.specs.declared.Candidates.{Candidates}
-use Rattle.position_third_step1.specs.Plan.{found}
+use Rattle.position_third_step1.specs.CheckTree.{found}
 use Rattle.get_profile.specs.Families.{Family, isFound, unlessFound, eachOf, firstOf}
 
 -- f is the first family, d the list that it leaves, fs are the families after it

@@ -8,7 +8,7 @@ use Rattle.profile.specs.declared.Target.{Target}
 use Rattle.profile.specs.declared.Limits.{Limits}
 use Rattle.phase_times.specs.declared.constants.Constants.{Constants}
 use Rattle.candidates.specs.declared.Candidates.{Candidates}
-use Rattle.position_third_step1.specs.Plan.{found}
+use Rattle.position_third_step1.specs.CheckTree.{found}
 use Rattle.position_third_step1.specs.TimeAllVel.{timeAllVel}
 use Rattle.position_third_step1.specs.TimeAcc0Acc1.{timeAcc0Acc1}
 use Rattle.position_third_step1.specs.TimeAllNoneAcc0Acc1.{timeAllNoneAcc0Acc1}

@@ -13,7 +13,7 @@ use Rattle.profile.specs.declared.Target.{Target}
 use Rattle.profile.specs.declared.Limits.{Limits}
 use Rattle.profile_check.specs.declared.Checked.{Checked}
 use Rattle.phase_times.specs.Constants.{constantsOf}
-use Rattle.phase_times.specs.GetProfileTests.{hasZeroLimit, endsAtRest, restsAtTarget}
+use Rattle.get_profile.specs.Choices.{hasZeroLimit, endsAtRest, restsAtTarget}
 use Rattle.phase_times.specs.declared.constants.Constants.{Constants}
 use Rattle.trees.specs.Tree.{Tree, done, bind, run, AllNo}
 use Rattle.trees.proofs.TreeLaws.{all-no-bind, all-no-questions}

@@ -8,14 +8,14 @@ use Rattle.profile.specs.declared.Target.{Target}
 use Rattle.profile.specs.declared.Limits.{Limits}
 use Rattle.profile_check.specs.declared.Checked.{Checked}
 use Rattle.phase_times.specs.Constants.{constantsOf}
-use Rattle.phase_times.specs.GetProfileTests.{hasZeroLimit, endsAtRest, restsAtTarget}
+use Rattle.get_profile.specs.Choices.{hasZeroLimit, endsAtRest, restsAtTarget}
 use Rattle.phase_times.specs.declared.constants.Constants.{Constants}
 use Rattle.trees.specs.Tree.{done, run}
 use Rattle.trees.proofs.TreeLaws.{run-bind}
 use Rattle.candidates.specs.Try.{passes}
 use Rattle.candidates.specs.List.{slot, freshList}
 use Rattle.candidates.specs.declared.Candidates.{Candidates}
-use Rattle.position_third_step1.specs.Plan.{found}
+use Rattle.position_third_step1.specs.CheckTree.{found}
 use Rattle.position_third_step1.specs.TimeAllNoneAcc0Acc1.{timeAllNoneAcc0Acc1}
 use Rattle.position_third_step1.specs.TimeAllSingleStep.{timeAllSingleStep}
 use Rattle.block.specs.Selection.{selected}

@@ -10,7 +10,7 @@ use Rattle.phase_times.specs.declared.constants.Constants.{Constants}
 use Rattle.trees.specs.InTurn.{Bounded}
 use Rattle.trees.proofs.InTurnLaws.{asks-each, stays}
 use Rattle.candidates.specs.List.{added}
-use Rattle.position_third_step1.specs.Plan.{TryWith}
+use Rattle.position_third_step1.specs.CheckTree.{TryWith}
 use Rattle.position_third_step1.proofs.FamilyLaws.{none-found, stops-at-first, checks-at-most, all-vel-bounded, acc0-acc1-bounded}
 use Rattle.position_third_step1.proofs.FamilyLaws.{none-acc0-acc1-bounded, acc1-vel-two-step-bounded, acc0-two-step-bounded, vel-two-step-bounded, none-two-step-bounded}
 use Rattle.get_profile.specs.Families.{Family, firstOf, eachOf}

@@ -5,7 +5,7 @@ use mathlib.Core.Logic.{inl, inr}
 use lib.Ieee.{Float, nan, inf, fin, neg}
 use Rattle.profile.specs.Limits.{swappedLimits}
 use Rattle.profile.specs.declared.Limits.{Limits}
-use Rattle.phase_times.specs.GetProfileTests.{pointsUp}
+use Rattle.get_profile.specs.Choices.{pointsUp}
 use Rattle.phase_times.specs.declared.constants.Constants.{Constants}
 use Rattle.get_profile.specs.Stages.{Way, given, swapped, limitsOf}
 use Rattle.get_profile.specs.GetProfile.{EitherWay, towardsTarget}

@@ -4,11 +4,11 @@ use mathlib.Core.List.{List, [], _∷_}
 use lib.Dec.{ltb}
 use Rattle.trees.specs.Tree.{done, bind}
 use Rattle.candidates.specs.declared.Candidates.{Candidates}
-use Rattle.position_third_step1.specs.Plan.{Plan}
+use Rattle.position_third_step1.specs.CheckTree.{CheckTree}
 
 -- from a list of accepted profiles to the checks that are made, and the list at their end
 abbrev pub Family : Type 0
-Family = Candidates → Plan
+Family = Candidates → CheckTree
 
 -- some profile counts
 abbrev pub isFound : Candidates → Bool

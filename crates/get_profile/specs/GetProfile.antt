@@ -13,7 +13,7 @@ use Rattle.profile.specs.declared.Target.{Target}
 use Rattle.profile.specs.declared.Limits.{Limits}
 use Rattle.profile_check.specs.declared.Checked.{Checked}
 use Rattle.phase_times.specs.Constants.{constantsOf}
-use Rattle.phase_times.specs.GetProfileTests.{hasZeroLimit, endsAtRest, pointsUp, restsAtTarget}
+use Rattle.get_profile.specs.Choices.{hasZeroLimit, endsAtRest, pointsUp, restsAtTarget}
 use Rattle.phase_times.specs.TimeAllSingleStep.{startsMoving, startsAccelerated}
 use Rattle.phase_times.specs.declared.constants.Constants.{Constants}
 use Rattle.trees.specs.Tree.{Tree, done, bind, run, AllNo}
@@ -21,7 +21,7 @@ use Rattle.trees.specs.InTurn.{EachNo}
 use Rattle.candidates.specs.Try.{Try, passes}
 use Rattle.candidates.specs.List.{slot, freshList}
 use Rattle.candidates.specs.declared.Candidates.{Candidates}
-use Rattle.position_third_step1.specs.Plan.{found}
+use Rattle.position_third_step1.specs.CheckTree.{found}
 use Rattle.position_third_step1.specs.TimeAllSingleStep.{singleStepTries, timeAllSingleStep}
 use Rattle.block.specs.Blocks.{duration, noInterval, intervalFrom, blockOf, planned, refused}
 use Rattle.block.specs.Selection.{removal, selected}

@@ -7,7 +7,7 @@ use Rattle.profile.specs.declared.Target.{Target}
 use Rattle.profile.specs.declared.Limits.{Limits}
 use Rattle.phase_times.specs.declared.constants.Constants.{Constants}
 use Rattle.candidates.specs.Try.{Try}
-use Rattle.position_third_step1.specs.Plan.{tries}
+use Rattle.position_third_step1.specs.CheckTree.{tries}
 use Rattle.position_third_step1.specs.TimeAllVel.{allVelTries}
 use Rattle.position_third_step1.specs.TimeAcc0Acc1.{acc0Acc1Tries}
 use Rattle.position_third_step1.specs.TimeAllNoneAcc0Acc1.{noneAcc0Acc1Tries}

@@ -2,18 +2,21 @@
 
 ghost use mathlib.Core.Path.{_≡_};
 ghost use Rattle.trees.specs.Tree.{run};
-ghost use Rattle.position_third_step1.specs.Plan.{found};
-ghost use Rattle.phase_times.specs.GetProfileTests.{endsAtRest, restsAtTarget};
+ghost use Rattle.position_third_step1.specs.CheckTree.{found};
+ghost use Rattle.get_profile.specs.Choices.{endsAtRest, restsAtTarget};
 ghost use Rattle.get_profile.specs.GetProfile.{resting, moving, twoStep, towardsTarget, firstSearch, tryFamilies, afterPassing, singleStepAnswer, selectedFrom, getProfileAnswer};
+
+mod choices; // choices.rt: the conditions by which families and directions are chosen
+
 use block::Answer;
 use block::Block;
 use block::Interval;
 use candidates::Candidates;
+use choices::ends_at_rest;
+use choices::has_zero_limit;
+use choices::points_up;
+use choices::rests_at_target;
 use phase_times::constants::Constants;
-use phase_times::get_profile_tests::ends_at_rest;
-use phase_times::get_profile_tests::has_zero_limit;
-use phase_times::get_profile_tests::points_up;
-use phase_times::get_profile_tests::rests_at_target;
 use phase_times::time_all_single_step::starts_accelerated;
 use phase_times::time_all_single_step::starts_moving;
 use position_third_step1::time_acc0_acc1;

@@ -14,7 +14,7 @@ use Rattle.profile.specs.declared.Target.{Target}
 use Rattle.profile.specs.declared.Limits.{Limits}
 use Rattle.block.specs.Blocks.{refused}
 use Rattle.block.specs.declared.Answer.{Answer}
-use Rattle.planner.specs.Plan.{planOf}
+use Rattle.planner.specs.Answers.{answerOf}
 use Rattle.planner.specs.declared.Move.{Move}
 use Rattle.moves.specs.declared.Record.{Record}
 use Rattle.moves.specs.declared.Record.the-variants.{End, Malformed, Whole}
@@ -50,7 +50,7 @@ recordOf b = cond (eqb (length b) 0) End (cond (isMalformed b) Malformed (Whole 
 abbrev pub answerTo : Record → Option Answer
 answerTo End = none
 answerTo Malformed = some (refused 8)
-answerTo (Whole x) = some (planOf x)
+answerTo (Whole x) = some (answerOf x)
 
 -- the number of that answer: 0 for a plan
 abbrev pub numberOf : Option Answer → Option ℕ

@@ -3,4 +3,3 @@ pub mod Constants
 pub mod TimeAllVel
 pub mod TimeAcc0Acc1
 pub mod TimeAllSingleStep
-pub mod GetProfileTests

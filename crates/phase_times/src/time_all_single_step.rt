@@ -3,7 +3,7 @@
 ghost use mathlib.Core.Path.{_≡_};
 ghost use Rattle.phase_times.specs.TimeAllSingleStep.{changesAcceleration, startsAccelerated, startsMoving, startsAtTarget, hasPhase3, singleStepRadicand, timesSingleStepSolution1, timesSingleStepSolution2, timesAtConstantSpeed, zeroTimes};
 use crate::constants::Constants;
-use profile::EPSILON;
+use doubles::EPSILON;
 use profile::Start;
 use profile::Target;
 

@@ -2,8 +2,8 @@
 
 ghost use mathlib.Core.Path.{_≡_};
 ghost use Rattle.phase_times_quartic.specs.CorrectionAcc1.{origAcc1, derivAcc1, firstCorrectionAcc1, thirdCorrectionAcc1, secondCorrectionAcc1, correctedAcc1};
+use doubles::EPSILON;
 use phase_times::constants::Constants;
-use profile::EPSILON;
 use profile::Limits;
 use profile::Start;
 

@@ -12,11 +12,11 @@ use Rattle.block.specs.declared.Stretch.{Stretch}
 use Rattle.block.specs.declared.Stretch.the-variants.{Nothing, Between, From}
 use Rattle.block.specs.declared.Block.{Block}
 use Rattle.block.specs.declared.Answer.{Answer}
-use Rattle.planner.specs.Plan.{planOf}
+use Rattle.planner.specs.Answers.{answerOf}
 use Rattle.planner.specs.Promise.{Promise, FiniteDuration}
 use Rattle.planner.specs.declared.Move.{Move}
 use Rattle.plan_buffer.specs.Layout.{numeral, elements, profileNumbers, intervalNumbers, planNumbers}
-use Rattle.plan_buffer.specs.Answers.{movedFrom, planStatus, planWritten, Planned, insideNumbers, isBlockedFrom, blockingFrom, blockedStatus, Asked}
+use Rattle.plan_buffer.specs.Buffers.{movedFrom, planStatus, planWritten, Planned, insideNumbers, isBlockedFrom, blockingFrom, blockedStatus, Asked}
 use Rattle.plan_buffer.proofs.LayoutLaws.{plan-length}
 
 -- ---- planning: nothing is written unless the status is 0
@@ -38,7 +38,7 @@ module _ (mv plan : List Float) where
         let f = lt-ltb (length plan) 166 h in
         record { status-is = rw (e, f); after-is = rw (e, f); promise = λ z. never z; duration = λ z. never z }
 
-    module _ (room : 166 ≤ length plan) (x : Move) (r : Answer) (ex : x ≡ movedFrom mv) (er : r ≡ planOf x) where
+    module _ (room : 166 ≤ length plan) (x : Move) (r : Answer) (ex : x ≡ movedFrom mv) (er : r ≡ answerOf x) where
       status : r .refusal ≡ planStatus mv plan
       unfolding planStatus
       status = rw (eq-eqb (length mv) 13 thirteen, le-ltb (length plan) 166 room, er, ex)

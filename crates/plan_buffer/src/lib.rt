@@ -1,6 +1,6 @@
 // A move and its plan in buffers of doubles, for callers in other languages: a move is 13 doubles, a plan 166. The layout is that of specs/Layout.antt.
 
-ghost use Rattle.plan_buffer.specs.Answers.{Planned, Asked};
+ghost use Rattle.plan_buffer.specs.Buffers.{Planned, Asked};
 use crate::read::blocking;
 use crate::read::moved;
 use crate::write::write_plan;

@@ -3,7 +3,7 @@
 ghost use mathlib.Core.Path.{_≡_};
 ghost use Prim.Native.Nat.{_≤_};
 ghost use lib.ListN.{length};
-ghost use Rattle.plan_buffer.specs.Answers.{movedFrom, insideNumbers, blockingFrom};
+ghost use Rattle.plan_buffer.specs.Buffers.{movedFrom, insideNumbers, blockingFrom};
 use planner::Move;
 use profile::Limits;
 use profile::Start;

@@ -15,7 +15,7 @@ use Rattle.replay.specs.Replay.{storedRows}
 use Rattle.replay.specs.Promise.{EndsAt}
 use Rattle.replay.proofs.CheckedReplay.{ProfileFits, none-stored, accepted-ends-at}
 use Rattle.get_profile.proofs.AnswerLaws.{AcceptedFor}
-use Rattle.planner.specs.Plan.{inputOf}
+use Rattle.planner.specs.Answers.{inputOf}
 use Rattle.planner.specs.Promise.{Arrives, OfMove, CheckedFor}
 use Rattle.planner.specs.declared.Move.{Move}
 
@@ -48,15 +48,15 @@ passed-tells brake accel y h = accepts-tells (withBoundary emptyProfile (y .star
 
 module _ (x : Move) (q : Profile) (h : AcceptedFor (inputOf x) (x .limits) q) where
   pub accepted-tells : Accepted q false (h .x .jf) (h .x .limits)
-  accepted-tells = rw (h .made-is) (passed-tells (inputOf x .brake) (inputOf x .accel) (h .x) (h .passed))
+  accepted-tells = rw (h .profile-is) (passed-tells (inputOf x .brake) (inputOf x .accel) (h .x) (h .passed))
 
   pub of-move : OfMove x q
   of-move =
       record {
-        start-is = ap startOf (h .made-is) ∙ start-of _ _ (h .x) ∙ h .is-of .start-is ∙ input-start x;
-        target-is = ap targetOf (h .made-is) ∙ target-of _ _ (h .x) ∙ h .is-of .target-is ∙ input-target x;
-        brake-is = ap (λ (r : Profile). r .brake) (h .made-is) ∙ brake-of _ _ (h .x) ∙ input-brake x;
-        accel-is = ap (λ (r : Profile). r .accel) (h .made-is) ∙ accel-of _ _ (h .x) ∙ input-accel x;
+        start-is = ap startOf (h .profile-is) ∙ start-of _ _ (h .x) ∙ h .is-of .start-is ∙ input-start x;
+        target-is = ap targetOf (h .profile-is) ∙ target-of _ _ (h .x) ∙ h .is-of .target-is ∙ input-target x;
+        brake-is = ap (λ (r : Profile). r .brake) (h .profile-is) ∙ brake-of _ _ (h .x) ∙ input-brake x;
+        accel-is = ap (λ (r : Profile). r .accel) (h .profile-is) ∙ accel-of _ _ (h .x) ∙ input-accel x;
       }
 
   pub checked-for : CheckedFor x q
@@ -66,7 +66,7 @@ module _ (x : Move) (q : Profile) (h : AcceptedFor (inputOf x) (x .limits) q) wh
         jf = h .x .jf;
         limits-are = h .is-of .limits-are;
         jerk-is = h .is-of .jerk-is;
-        checked-is = rw (h .made-is) (checked-again (inputOf x .brake) (inputOf x .accel) (h .x) (h .passed));
+        checked-is = rw (h .profile-is) (checked-again (inputOf x .brake) (inputOf x .accel) (h .x) (h .passed));
       }
 
   pub arrives : OfDoubles q → Arrives x q

@@ -15,7 +15,7 @@ use lib.Ieee.Scale.{grid, overflow, finite}
 use Rattle.doubles.specs.Operators.{_+ᶠ_, _<ᶠ_, _≤ᶠ_, at}
 use Rattle.doubles.specs.Constants.{0ᶠ}
 use Rattle.doubles.specs.Signed.{Signed, zeroˢ, _⊕_, _⊙_, Near, size, AtMost}
-use Rattle.doubles.specs.Value.{magnitude, value, val, Fits, Finite}
+use Rattle.doubles.specs.Value.{magnitude, value, val, Fits, Finite, NotNegative}
 use Rattle.doubles.specs.Error.{ErrorAtMost}
 use Rattle.doubles.proofs.ErrorChain.{W}
 use Rattle.doubles.proofs.DoubleLaws.{add64}
@@ -23,10 +23,10 @@ use Rattle.doubles.proofs.ValueLaws.{zero-value}
 use Rattle.doubles.proofs.RoundLaws.{round-error-whole}
 use Rattle.doubles.proofs.OperationLaws.{Fractions, operands, swapped, sum-units, difference-units}
 use Rattle.doubles.proofs.OrderLaws.{not-lt→atmost, atmost→le, not-negative}
-use Rattle.doubles.proofs.SumLaws.{NotNegative, add-not-negative, bounded-finite, not-negative-less, less-not-negative}
+use Rattle.doubles.proofs.SumLaws.{add-not-negative, bounded-finite, not-negative-less, less-not-negative}
 use Rattle.profile.specs.Tolerances.{tMax}
 use Rattle.profile_rows.specs.Rows.{sums}
-use Rattle.block.proofs.CondLaws.{cond-of}
+use Rattle.doubles.proofs.CondLaws.{cond-of}
 use Rattle.replay.proofs.DurationBound.{Time}
 use Rattle.replay.proofs.ReplayBound.{tMax-fits, tMax-finite}
 

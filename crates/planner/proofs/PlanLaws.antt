@@ -18,7 +18,8 @@ use Rattle.block.specs.declared.Block.{Block}
 use Rattle.block.specs.declared.Answer.{Answer}
 use Rattle.get_profile.specs.GetProfile.{getProfileAnswer}
 use Rattle.get_profile.proofs.AnswerLaws.{AcceptedFor, answered}
-use Rattle.planner.specs.Plan.{finiteStart, finiteTarget, finiteLimits, finiteMove, wrongDuration, inputOf, planOf, 1e12ᶠ, Admitted}
+use Rattle.profile.specs.Tolerances.{tMax}
+use Rattle.planner.specs.Answers.{finiteStart, finiteTarget, finiteLimits, finiteMove, wrongDuration, inputOf, answerOf, Admitted}
 use Rattle.planner.specs.Promise.{Arrives, Promise, FiniteDuration, OfMove, CheckedFor}
 use Rattle.planner.specs.declared.Move.{Move}
 use Rattle.planner.proofs.RefusalLaws.{admitted, admitted-answer}
@@ -50,27 +51,27 @@ four-no false false true d e = absurd (true≢false e)
 four-no false false false true e = absurd (true≢false e)
 four-no false false false false e = (tt, tt, tt, tt)
 
-module _ (x : Move) (accepted : planOf x .refusal ≡ 0) where
+module _ (x : Move) (accepted : answerOf x .refusal ≡ 0) where
   passes-tests : Admitted x
   passes-tests = admitted x .0 (inl accepted)
 
-  answer-is : planOf x ≡ getProfileAnswer (inputOf x) (x .limits)
+  answer-is : answerOf x ≡ getProfileAnswer (inputOf x) (x .limits)
   answer-is = admitted-answer x passes-tests
 
-  accepted-each : Each (AcceptedFor (inputOf x) (x .limits)) (planOf x .block)
+  accepted-each : Each (AcceptedFor (inputOf x) (x .limits)) (answerOf x .block)
   accepted-each = rw answer-is (answered (inputOf x) (x .limits) .each (rw answer-is at accepted))
 
   -- its profile, and the far profile of each stretch, has the move's start and target, and its durations
-  pub plan-of-move : Each (OfMove x) (planOf x .block)
-  plan-of-move = each-with {P = λ q. Unit {0}} (λ q _ h. of-move x q h) (planOf x .block) tt tt tt accepted-each
+  pub plan-of-move : Each (OfMove x) (answerOf x .block)
+  plan-of-move = each-with {P = λ q. Unit {0}} (λ q _ h. of-move x q h) (answerOf x .block) tt tt tt accepted-each
 
   -- it is what the check makes of its times, with the move's limits in either direction
-  pub plan-checked : Each (CheckedFor x) (planOf x .block)
-  plan-checked = each-with {P = λ q. Unit {0}} (λ q _ h. checked-for x q h) (planOf x .block) tt tt tt accepted-each
+  pub plan-checked : Each (CheckedFor x) (answerOf x .block)
+  plan-checked = each-with {P = λ q. Unit {0}} (λ q _ h. checked-for x q h) (answerOf x .block) tt tt tt accepted-each
 
   -- and ends at the target
-  pub plan-arrives : PlanOfDoubles (planOf x .block) → Each (Arrives x) (planOf x .block)
-  plan-arrives d = each-with (λ q e h. arrives x q h e) (planOf x .block) (d .shortest) (d .beside-a) (d .beside-b) accepted-each
+  pub plan-arrives : PlanOfDoubles (answerOf x .block) → Each (Arrives x) (answerOf x .block)
+  plan-arrives d = each-with (λ q e h. arrives x q h e) (answerOf x .block) (d .shortest) (d .beside-a) (d .beside-b) accepted-each
 
   -- ---- its duration
   durations-finite : Finite (x .brake) × Finite (x .accel)
@@ -80,22 +81,22 @@ module _ (x : Move) (accepted : planOf x .refusal ≡ 0) where
       let all : T (finiteMove x) = rw (passes-tests .finite) tt in
       (and-r others (finite (x .brake)) (and-l (others && finite (x .brake)) (finite (x .accel)) all), and-r (others && finite (x .brake)) (finite (x .accel)) all)
 
-  durations-within : T (not (x .brake <ᶠ 0ᶠ)) × T (not (1e12ᶠ <ᶠ x .brake)) × T (not (x .accel <ᶠ 0ᶠ)) × T (not (1e12ᶠ <ᶠ x .accel))
+  durations-within : T (not (x .brake <ᶠ 0ᶠ)) × T (not (tMax <ᶠ x .brake)) × T (not (x .accel <ᶠ 0ᶠ)) × T (not (tMax <ᶠ x .accel))
   unfolding wrongDuration
-  durations-within = four-no (x .brake <ᶠ 0ᶠ) (1e12ᶠ <ᶠ x .brake) (x .accel <ᶠ 0ᶠ) (1e12ᶠ <ᶠ x .accel) (passes-tests .durations)
+  durations-within = four-no (x .brake <ᶠ 0ᶠ) (tMax <ᶠ x .brake) (x .accel <ᶠ 0ᶠ) (tMax <ᶠ x .accel) (passes-tests .durations)
 
-  t-min-is : planOf x .block .«t_min» ≡ at (sums (planOf x .block .«p_min» .t)) 6 +ᶠ x .brake +ᶠ x .accel
+  t-min-is : answerOf x .block .«t_min» ≡ at (sums (answerOf x .block .«p_min» .t)) 6 +ᶠ x .brake +ᶠ x .accel
   unfolding duration total
   t-min-is =
-      let q = planOf x .block .«p_min» in
-      let t : planOf x .block .«t_min» ≡ duration q = rw answer-is (answered (inputOf x) (x .limits) .lasts (rw answer-is at accepted)) in
+      let q = answerOf x .block .«p_min» in
+      let t : answerOf x .block .«t_min» ≡ duration q = rw answer-is (answered (inputOf x) (x .limits) .lasts (rw answer-is at accepted)) in
       let s = accepted-tells x q (accepted-each .shortest) .motion .t-sum in
       let m = plan-of-move .shortest in
       t ∙ rw (s, m .brake-is, m .accel-is)
 
-  pub plan-duration : Fits (x .brake) → Fits (x .accel) → OfDoubles (planOf x .block .«p_min») → Finite (planOf x .block .«t_min») × T (0ᶠ ≤ᶠ planOf x .block .«t_min»)
+  pub plan-duration : Fits (x .brake) → Fits (x .accel) → OfDoubles (answerOf x .block .«p_min») → Finite (answerOf x .block .«t_min») × T (0ᶠ ≤ᶠ answerOf x .block .«t_min»)
   plan-duration b a d =
-      let q = planOf x .block .«p_min» in
+      let q = answerOf x .block .«p_min» in
       let h = accepted-each .shortest in
       let s = accepted-tells x q h .motion in
       let w = durations-within in
@@ -104,7 +105,7 @@ module _ (x : Move) (accepted : planOf x .refusal ≡ 0) where
       (time (x .brake) b (durations-finite .0) (w .0)) (w .1) (time (x .accel) a (durations-finite .1) (w .2)) (w .3))
 
 -- ---- what is promised of an answer
-pub promised : (x : Move) (r : Answer) → Fits (x .brake) → Fits (x .accel) → PlanOfDoubles (r .block) → r ≡ planOf x → (r ≡ planOf x) × Promise x r × FiniteDuration r
+pub promised : (x : Move) (r : Answer) → Fits (x .brake) → Fits (x .accel) → PlanOfDoubles (r .block) → r ≡ answerOf x → (r ≡ answerOf x) × Promise x r × FiniteDuration r
 promised x r b a d e =
-    let d′ : PlanOfDoubles (planOf x .block) = rw e at d in
+    let d′ : PlanOfDoubles (answerOf x .block) = rw e at d in
     (e, rw e (λ h. plan-arrives x h d′), rw e (λ h. plan-duration x h b a (d′ .shortest)))

@@ -1,7 +1,7 @@
 // The planner: a move in, its plan or a refusal by number out. What is promised of it is in specs/Promise.antt.
 
 ghost use mathlib.Core.Path.{_≡_};
-ghost use Rattle.planner.specs.Plan.{finiteStart, finiteTarget, finiteLimits, finiteMove, wrongSign, wrongDuration, inputOf, planOf};
+ghost use Rattle.planner.specs.Answers.{finiteStart, finiteTarget, finiteLimits, finiteMove, wrongSign, wrongDuration, inputOf, answerOf};
 ghost use Rattle.planner.specs.Promise.{Promise, FiniteDuration};
 use block::Answer;
 use doubles::is_finite;
@@ -61,7 +61,7 @@ fn wrong_sign(m: Limits) -> bool
 fn wrong_duration(x: Move) -> bool
     ensures { λ r. ⌜ r ≡ wrongDuration x ⌝ }
 {
-    (x.brake < 0.0) | (x.brake > 1e12) | (x.accel < 0.0) | (x.accel > 1e12)
+    (x.brake < 0.0) | (x.brake > Profile::T_MAX) | (x.accel < 0.0) | (x.accel > Profile::T_MAX)
 }
 
 // The profile that get_profile is given.
@@ -75,7 +75,7 @@ fn input_of(x: Move) -> Profile
 }
 
 fn answer(x: Move) -> Answer
-    ensures { λ r. ⌜ r ≡ planOf x ⌝ }
+    ensures { λ r. ⌜ r ≡ answerOf x ⌝ }
 {
     if !finite_move(x) {
         return Answer::refused(1);
@@ -91,7 +91,7 @@ fn answer(x: Move) -> Answer
 
 // The plan of a move with refusal 0, or the number of its refusal with the empty plan.
 pub fn plan(x: Move) -> Answer
-    ensures { λ r. ⌜ (r ≡ planOf x) × Promise x r × FiniteDuration r ⌝ }
+    ensures { λ r. ⌜ (r ≡ answerOf x) × Promise x r × FiniteDuration r ⌝ }
 {
     answer(x)
 }

@@ -31,7 +31,7 @@ use Rattle.phase_times.specs.TimeAllSingleStep.{changesAcceleration, startsAcce
 use Rattle.phase_times.specs.declared.constants.Constants.{Constants}
 use Rattle.phase_times_quartic.specs.RootRange.{isSkipped}
 use Rattle.roots.specs.List.{rootsOf}
-use Rattle.position_third_step1.specs.Plan.{found, tries, tryOf, TryWith, onlyIf}
+use Rattle.position_third_step1.specs.CheckTree.{found, tries, tryOf, TryWith, onlyIf}
 use Rattle.position_third_step1.specs.TimeAllVel.{allVelTries}
 use Rattle.position_third_step1.specs.TimeAcc0Acc1.{acc0Acc1Solutions, acc0Acc1Tries}
 use Rattle.position_third_step1.specs.TimeAllNoneAcc0Acc1.{noneRoots, acc0Roots, acc1Roots, triesFor, rootTries, noneAcc0Acc1Tries}

@@ -24,7 +24,7 @@ use Rattle.phase_times_quartic.specs.RootRange.{isSkipped}
 use Rattle.roots.specs.List.{rootsOf}
 use Rattle.candidates.specs.Try.{Try}
 use Rattle.position_third_step1.specs.Order.{Shaped, names, keptRoots, rootNames}
-use Rattle.position_third_step1.specs.Plan.{onlyIf}
+use Rattle.position_third_step1.specs.CheckTree.{onlyIf}
 use Rattle.position_third_step1.specs.TimeAllVel.{allVelTries}
 use Rattle.position_third_step1.specs.TimeAcc0Acc1.{acc0Acc1Solutions}
 use Rattle.position_third_step1.specs.TimeAllNoneAcc0Acc1.{noneRoots, acc0Roots, acc1Roots, reachedBy, rootTry, triesFor, rootTries, noneAcc0Acc1Tries}

@@ -27,7 +27,7 @@ use Rattle.roots.specs.Reading.{insertedAll}
 use Rattle.roots.specs.Quartic.{quarticOf}
 use Rattle.roots.specs.declared.list.Roots.{Roots}
 use Rattle.roots.proofs.QuarticLaws.{Made, made, quartic-made}
-use Rattle.position_third_step1.specs.Plan.{found, tries, tryOf}
+use Rattle.position_third_step1.specs.CheckTree.{found, tries, tryOf}
 use Rattle.position_third_step1.specs.TimeAllNoneAcc0Acc1.{rootsIf, reachedBy, timesBy, acc0Roots, acc1Roots, nthRoots, rootTry, triesFor, rootTries, noneAcc0Acc1Tries}
 use Rattle.position_third_step1.specs.declared.none_acc0_acc1.RootTries.{RootTries}
 use Rattle.position_third_step1.proofs.TryLaws.{After, goes-on, stops}

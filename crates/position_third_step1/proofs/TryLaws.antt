@@ -6,7 +6,7 @@ use Rattle.trees.specs.Tree.{run}
 use Rattle.trees.specs.InTurn.{inTurn}
 use Rattle.trees.proofs.InTurnLaws.{run-no, run-yes, run-stop}
 use Rattle.candidates.specs.Try.{Try, passes}
-use Rattle.position_third_step1.specs.Plan.{onlyIf}
+use Rattle.position_third_step1.specs.CheckTree.{onlyIf}
 
 -- d is the state after a try x that is made only if g, in a family that goes on. y is the try as the code has it, ok the answer to it
 pub data After {S : Type 0} (add : S → Try → S) (stop : Bool) (s : S) (g : Bool) (x : Try) (d : S) : Type 0 where

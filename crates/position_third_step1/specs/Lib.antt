@@ -1,5 +1,5 @@
 -- The definitions of `position_third_step1`: each family by the tries that it makes, in the Rust's order.
-pub mod Plan
+pub mod CheckTree
 pub mod TimeAllVel
 pub mod TimeAcc0Acc1
 pub mod TwoStep

@@ -15,7 +15,7 @@ use Rattle.candidates.specs.Try.{Try}
 use Rattle.candidates.specs.declared.Candidates.{Candidates}
 use Rattle.candidates.specs.List.{added}
 use Rattle.position_third_step1.specs.declared.acc0_acc1.Acc0Acc1Tries.{Acc0Acc1Tries}
-use Rattle.position_third_step1.specs.Plan.{Plan, tries, tryOf, onlyIf}
+use Rattle.position_third_step1.specs.CheckTree.{CheckTree, tries, tryOf, onlyIf}
 
 -- solution 2, then solution 1, each where its guard admits it
 unfoldable pub acc0Acc1Solutions : Start → Target → Limits → (h1 h2 h3 : Float) → List Try
@@ -29,7 +29,7 @@ acc0Acc1Tries start target k m =
     let radicand = acc0Acc1Radicand start target k m in
     cond (0ᶠ ≤ᶠ radicand) (acc0Acc1Solutions start target m (acc0Acc1H1 (sqrtOf radicand)) (acc0Acc1H2 start k m) (acc0Acc1H3 target k m)) []
 
-abbrev pub timeAcc0Acc1 : Candidates → Start → Target → Constants → Limits → (return-after-found : Bool) → Plan
+abbrev pub timeAcc0Acc1 : Candidates → Start → Target → Constants → Limits → (return-after-found : Bool) → CheckTree
 timeAcc0Acc1 c start target k m return-after-found = tries return-after-found c (acc0Acc1Tries start target k m)
 
 -- the list with the solutions that pass

@@ -24,7 +24,7 @@ use Rattle.roots.specs.Quartic.{quarticOf}
 use Rattle.roots.specs.declared.list.Roots.{Roots}
 use Rattle.candidates.specs.Try.{Try}
 use Rattle.candidates.specs.declared.Candidates.{Candidates}
-use Rattle.position_third_step1.specs.Plan.{Plan, tries, tryOf, onlyIf}
+use Rattle.position_third_step1.specs.CheckTree.{CheckTree, tries, tryOf, onlyIf}
 use Rattle.position_third_step1.specs.declared.none_acc0_acc1.Polynom.{Polynom}
 use Rattle.position_third_step1.specs.declared.none_acc0_acc1.Polynom.the-variants.{NONE, ACC0, ACC1}
 use Rattle.position_third_step1.specs.declared.none_acc0_acc1.RootTries.{RootTries}
@@ -106,5 +106,5 @@ module _ (start : Start) (target : Target) (k : Constants) (m : Limits) where
   unfoldable pub noneAcc0Acc1Tries : List Try
   noneAcc0Acc1Tries = rootTries (noneRoots start target k m) (rootTries (acc0Roots start target k m) (rootTries (acc1Roots start target k m) []))
 
-abbrev pub timeAllNoneAcc0Acc1 : Candidates → Start → Target → Constants → Limits → (return-after-found : Bool) → Plan
+abbrev pub timeAllNoneAcc0Acc1 : Candidates → Start → Target → Constants → Limits → (return-after-found : Bool) → CheckTree
 timeAllNoneAcc0Acc1 c start target k m return-after-found = tries return-after-found c (noneAcc0Acc1Tries start target k m)

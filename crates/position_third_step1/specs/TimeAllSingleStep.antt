@@ -15,7 +15,7 @@ use Rattle.phase_times.specs.declared.constants.Constants.{Constants}
 use Rattle.trees.specs.Tree.{Tree}
 use Rattle.trees.specs.InTurn.{inTurn}
 use Rattle.candidates.specs.Try.{Try, profileOf}
-use Rattle.position_third_step1.specs.Plan.{onlyIf}
+use Rattle.position_third_step1.specs.CheckTree.{onlyIf}
 
 -- its checks are made at jerk 0
 abbrev pub jerklessTry : Start → Target → Limits → List Float → Try

@@ -10,7 +10,7 @@ use Rattle.phase_times.specs.TimeAllVel.{tAcc0Radicand, tAcc1Radicand, timesAcc
 use Rattle.phase_times.specs.declared.constants.Constants.{Constants}
 use Rattle.candidates.specs.Try.{Try}
 use Rattle.candidates.specs.declared.Candidates.{Candidates}
-use Rattle.position_third_step1.specs.Plan.{Plan, tries, tryOf}
+use Rattle.position_third_step1.specs.CheckTree.{CheckTree, tries, tryOf}
 
 -- ACC0_ACC1_VEL, ACC1_VEL, ACC0_VEL, VEL. The second and the fourth keep phases 4 to 6 of the try before them
 unfoldable pub allVelTries : Start → Target → Constants → Limits → List Try
@@ -26,5 +26,5 @@ allVelTries start target k m =
     ∷ []
 
 -- it stops at its first success, whatever `return_after_found`
-abbrev pub timeAllVel : Candidates → Start → Target → Constants → Limits → Plan
+abbrev pub timeAllVel : Candidates → Start → Target → Constants → Limits → CheckTree
 timeAllVel c start target k m = tries true c (allVelTries start target k m)

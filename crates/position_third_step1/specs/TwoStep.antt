@@ -15,12 +15,12 @@ use Rattle.phase_times_two_step.specs.TimeNoneTwoStep.{noneTwoStepRadicand, tim
 use Rattle.phase_times.specs.declared.constants.Constants.{Constants}
 use Rattle.candidates.specs.Try.{Try}
 use Rattle.candidates.specs.declared.Candidates.{Candidates}
-use Rattle.position_third_step1.specs.Plan.{Plan, tries, tryOf}
+use Rattle.position_third_step1.specs.CheckTree.{CheckTree, tries, tryOf}
 
 unfoldable pub acc1VelTwoStepTries : Start → Target → Constants → Limits → List Try
 acc1VelTwoStepTries start target k m = tryOf start target m Acc1Vel (timesAcc1VelTwoStep start target k m) ∷ []
 
-abbrev pub timeAcc1VelTwoStep : Candidates → Start → Target → Constants → Limits → Plan
+abbrev pub timeAcc1VelTwoStep : Candidates → Start → Target → Constants → Limits → CheckTree
 timeAcc1VelTwoStep c start target k m = tries true c (acc1VelTwoStepTries start target k m)
 
 -- two step; three step, removed pf; three step, removed a_max; three step with t = (a_max - a_min) / j_max
@@ -34,7 +34,7 @@ acc0TwoStepTries start target k m =
     ∷ tryOf start target m Acc0 (timesAcc0ToAMin start target k m)
     ∷ []
 
-abbrev pub timeAcc0TwoStep : Candidates → Start → Target → Constants → Limits → Plan
+abbrev pub timeAcc0TwoStep : Candidates → Start → Target → Constants → Limits → CheckTree
 timeAcc0TwoStep c start target k m = tries true c (acc0TwoStepTries start target k m)
 
 unfoldable pub velTwoStepTries : Start → Target → Constants → Limits → List Try
@@ -44,7 +44,7 @@ velTwoStepTries start target k m =
     ∷ tryOf start target m Vel (timesVelPhase2 start target k m h1)
     ∷ []
 
-abbrev pub timeVelTwoStep : Candidates → Start → Target → Constants → Limits → Plan
+abbrev pub timeVelTwoStep : Candidates → Start → Target → Constants → Limits → CheckTree
 timeVelTwoStep c start target k m = tries true c (velTwoStepTries start target k m)
 
 -- two step; single step
@@ -55,5 +55,5 @@ noneTwoStepTries start target k m =
     ∷ tryOf start target m None (timesNoneSingleStep start target m)
     ∷ []
 
-abbrev pub timeNoneTwoStep : Candidates → Start → Target → Constants → Limits → Plan
+abbrev pub timeNoneTwoStep : Candidates → Start → Target → Constants → Limits → CheckTree
 timeNoneTwoStep c start target k m = tries true c (noneTwoStepTries start target k m)

@@ -1,7 +1,7 @@
 // The tries that reach a_max and a_min.
 
 ghost use mathlib.Core.Path.{_≡_};
-ghost use Rattle.position_third_step1.specs.Plan.{found};
+ghost use Rattle.position_third_step1.specs.CheckTree.{found};
 ghost use Rattle.position_third_step1.specs.TimeAcc0Acc1.{withPassing, timeAcc0Acc1};
 ghost use Rattle.candidates.specs.declared.Candidates.{Candidates};
 use candidates::Candidates;

@@ -1,7 +1,7 @@
 // The tries that reach v_max.
 
 ghost use mathlib.Core.Path.{_≡_};
-ghost use Rattle.position_third_step1.specs.Plan.{found};
+ghost use Rattle.position_third_step1.specs.CheckTree.{found};
 ghost use Rattle.position_third_step1.specs.TimeAllVel.{timeAllVel};
 use candidates::Candidates;
 use candidates::passes;

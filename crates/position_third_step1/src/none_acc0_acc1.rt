@@ -5,7 +5,7 @@ ghost use mathlib.Core.List.{_∷_};
 ghost use Prim.Native.Nat.{_+_, _≤_, _<_};
 ghost use lib.ListN.{drop};
 ghost use Rattle.roots.specs.List.{rootsOf};
-ghost use Rattle.position_third_step1.specs.Plan.{found};
+ghost use Rattle.position_third_step1.specs.CheckTree.{found};
 ghost use Rattle.position_third_step1.specs.TimeAllNoneAcc0Acc1.{rootsIf, noneRoots, acc0Roots, acc1Roots, reachedBy, timesBy, nthRoots, timeAllNoneAcc0Acc1};
 use candidates::Candidates;
 use candidates::passes;

@@ -1,7 +1,7 @@
 // The two-step families, which are tried where no other found anything. Each stops at its first success.
 
 ghost use mathlib.Core.Path.{_≡_};
-ghost use Rattle.position_third_step1.specs.Plan.{found};
+ghost use Rattle.position_third_step1.specs.CheckTree.{found};
 ghost use Rattle.position_third_step1.specs.TwoStep.{timeAcc1VelTwoStep, timeAcc0TwoStep, timeVelTwoStep, timeNoneTwoStep};
 use candidates::Candidates;
 use candidates::passes;

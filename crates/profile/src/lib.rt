@@ -1,7 +1,6 @@
 // A motion profile of one axis, its boundary and its limits: what profile.rs declares, by value. The definitions that the contracts cite are in specs/.
 
 ghost use mathlib.Core.Path.{_≡_};
-ghost use Rattle.doubles.specs.Constants.{eps};
 ghost use Rattle.profile.specs.Tolerances.{vEps, aEps, jEps, pPrecision, vPrecision, aPrecision, tMax};
 
 mod names; // names.rt: what a name of reached limits asks of the check
@@ -76,9 +75,6 @@ pub struct Bounds {
     pub a_low_lim: f64,
 }
 
-// f64::EPSILON, the EPS of the definitions.
-pub const EPSILON: f64 = 2.220446049250313e-16;
-
 impl Profile {
     pub const V_EPS: f64 = 1e-12;
 
@@ -97,6 +93,6 @@ impl Profile {
 
 // The constants of the code are those of the definitions.
 pub fn constants()
-    ensures { λ _. do e ← ⟦EPSILON⟧ .entry; v ← ⟦Profile::V_EPS⟧ .entry; a ← ⟦Profile::A_EPS⟧ .entry; j ← ⟦Profile::J_EPS⟧ .entry; ⌜ (e ≡ eps) × (v ≡ vEps) × (a ≡ aEps) × (j ≡ jEps) ⌝ }
+    ensures { λ _. do v ← ⟦Profile::V_EPS⟧ .entry; a ← ⟦Profile::A_EPS⟧ .entry; j ← ⟦Profile::J_EPS⟧ .entry; ⌜ (v ≡ vEps) × (a ≡ aEps) × (j ≡ jEps) ⌝ }
     ensures { λ _. do p ← ⟦Profile::P_PRECISION⟧ .entry; v ← ⟦Profile::V_PRECISION⟧ .entry; a ← ⟦Profile::A_PRECISION⟧ .entry; t ← ⟦Profile::T_MAX⟧ .entry; ⌜ (p ≡ pPrecision) × (v ≡ vPrecision) × (a ≡ aPrecision) × (t ≡ tMax) ⌝ }
 {}

@@ -4,8 +4,14 @@ ghost use mathlib.Core.Path.{_≡_};
 ghost use mathlib.Core.Bool.{false};
 ghost use Rattle.profile_check.specs.Check.{accepted, filled, checked};
 
-mod tests; // tests.rt: the tests of the check
+mod conditions; // conditions.rt: the conditions of the check
 
+use conditions::end_passes;
+use conditions::phases_pass;
+use conditions::rows_pass;
+use conditions::sum_passes;
+use conditions::times_pass;
+use conditions::zero_passes;
 use profile::ControlSigns;
 use profile::Limits;
 use profile::Profile;
@@ -19,12 +25,6 @@ use profile_rows::outer_row;
 use profile_rows::row_after;
 use profile_rows::rows_of;
 use profile_rows::sums_of;
-use tests::end_passes;
-use tests::phases_pass;
-use tests::rows_pass;
-use tests::sum_passes;
-use tests::times_pass;
-use tests::zero_passes;
 
 // Whether a profile was accepted, and the profile: filled in, or as it was given.
 pub struct Checked {
@@ -74,7 +74,7 @@ pub fn accepts(
 }
 
 // The boundary of q with the times t and what the check fills in.
-pub fn made(
+pub fn filled(
     q: Profile,
     t: [f64; 7],
     control_signs: ControlSigns,
@@ -134,7 +134,7 @@ pub fn check(
         jf,
         limits,
     ) {
-        let profile = made(q, t, control_signs, reached, set_limits, jf, limits);
+        let profile = filled(q, t, control_signs, reached, set_limits, jf, limits);
         Checked { ok: true, profile }
     } else {
         Checked {

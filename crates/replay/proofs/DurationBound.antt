@@ -10,11 +10,11 @@ use lib.Ieee.{Float, binary64}
 use lib.Ieee.Fits.{add-fits}
 use Rattle.doubles.specs.Operators.{_+ᶠ_, _<ᶠ_, at}
 use Rattle.doubles.specs.Signed.{Signed, _⊕_, _⊙_, Near, size, AtMost}
-use Rattle.doubles.specs.Value.{val, Fits, Finite}
+use Rattle.doubles.specs.Value.{val, Fits, Finite, NotNegative}
 use Rattle.doubles.proofs.ErrorChain.{W}
 use Rattle.doubles.proofs.OperationLaws.{add-finite}
 use Rattle.doubles.proofs.OrderLaws.{not-lt→atmost}
-use Rattle.doubles.proofs.SumLaws.{NotNegative, add-not-negative, bounded-finite, not-negative-less, less-not-negative}
+use Rattle.doubles.proofs.SumLaws.{add-not-negative, bounded-finite, not-negative-less, less-not-negative}
 use Rattle.doubles.proofs.DoubleLaws.{add64}
 use Rattle.profile_rows.specs.Rows.{sums}
 use Rattle.replay.proofs.ExactMotion.{sumTo}

@@ -10,7 +10,7 @@ use lib.ListN.{length, take, drop, drop-of-length-le}
 use lib.Seq.{take-at, getD-at, take-all, drop-append-add}
 use Rattle.doubles.specs.Operators.{_<ᶠ_, at}
 use Rattle.roots.specs.List.{placed, placedAt, sortedFrom}
-use Rattle.roots.proofs.Cases.{by-test}
+use Rattle.doubles.proofs.CondLaws.{by-cases}
 
 -- what holds of any four values written out holds of an array of four
 by-values : (P : List Float → Type 0) → ((a b c d : Float) → P (a ∷ b ∷ c ∷ d ∷ [])) → (v : List Float) → length v ≡ 4 → P v
@@ -36,19 +36,19 @@ withFourth v =
 
 pub second-placed : (v : List Float) → length v ≡ 4 → placedAt 1 v ≡ withSecond v
 unfolding placedAt placed
-second-placed = by-values (λ v. placedAt 1 v ≡ withSecond v) (λ a b c d. by-test (b <ᶠ a) (λ i. rw i) (λ i. rw i))
+second-placed = by-values (λ v. placedAt 1 v ≡ withSecond v) (λ a b c d. by-cases (b <ᶠ a) (λ i. rw i) (λ i. rw i))
 
 pub third-placed : (v : List Float) → length v ≡ 4 → placedAt 2 v ≡ withThird v
 unfolding placedAt placed
 third-placed =
     by-values (λ v. placedAt 2 v ≡ withThird v)
-    (λ a b c d. by-test (c <ᶠ a) (λ i. rw i) (λ i. by-test (c <ᶠ b) (λ j. rw (i, j)) (λ j. rw (i, j))))
+    (λ a b c d. by-cases (c <ᶠ a) (λ i. rw i) (λ i. by-cases (c <ᶠ b) (λ j. rw (i, j)) (λ j. rw (i, j))))
 
 fourth-placed : (v : List Float) → length v ≡ 4 → placedAt 3 v ≡ withFourth v
 unfolding placedAt placed
 fourth-placed =
     by-values (λ v. placedAt 3 v ≡ withFourth v)
-    (λ a b c d. by-test (d <ᶠ a) (λ i. rw i) (λ i. by-test (d <ᶠ b) (λ j. rw (i, j)) (λ j. by-test (d <ᶠ c) (λ k. rw (i, j, k)) (λ k. rw (i, j, k)))))
+    (λ a b c d. by-cases (d <ᶠ a) (λ i. rw i) (λ i. by-cases (d <ᶠ b) (λ j. rw (i, j)) (λ j. by-cases (d <ᶠ c) (λ k. rw (i, j, k)) (λ k. rw (i, j, k)))))
 
 -- the fourth value before the first, the second or the third, or where it is
 module _ (v : List Float) (four : length v ≡ 4) where
@@ -69,7 +69,7 @@ module _ (v : List Float) (four : length v ≡ 4) where
 pub length-placed : (x : Float) (l : List Float) → length (placed x l) ≡ suc (length l)
 unfolding placed
 length-placed x [] = refl
-length-placed x (y ∷ ys) = by-test (x <ᶠ y) (λ i. rw i) (λ i. rw i (ap suc (length-placed x ys)))
+length-placed x (y ∷ ys) = by-cases (x <ᶠ y) (λ i. rw i) (λ i. rw i (ap suc (length-placed x ys)))
 
 -- the root after n that are in order
 next-placed : (l : List Float) (x : Float) (rest : List Float) (n : ℕ) → length l ≡ n → placedAt n (l ++ x ∷ rest) ≡ placed x l ++ rest

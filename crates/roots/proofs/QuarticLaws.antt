@@ -11,7 +11,7 @@ use Rattle.roots.specs.declared.list.Roots.{Roots}
 use Rattle.roots.specs.List.{noRoots, inserted}
 use Rattle.roots.specs.Reading.{insertedAll}
 use Rattle.roots.specs.Quartic.{withQuadratic, rootsByFactors, quarticOf}
-use Rattle.roots.proofs.Cases.{either}
+use Rattle.doubles.proofs.CondLaws.{cond-of}
 
 -- the list that some insertions make
 pub data Made : Roots → Type 0 where
@@ -32,8 +32,8 @@ made-quadratic : (p q tolerance : Float) {l : Roots} → Made l → Made (withQu
 unfolding withQuadratic
 made-quadratic p q tolerance m =
     let d = p *ᶠ p -ᶠ 4ᶠ *ᶠ q in
-    either Made (absᶠ d <ᶠ tolerance) (made-inserted (-ᶠ p /ᶠ 2ᶠ) m)
-    (either Made (0ᶠ <ᶠ d) (made-inserted ((-ᶠ p +ᶠ sqrtOf d) /ᶠ 2ᶠ) (made-inserted ((-ᶠ p -ᶠ sqrtOf d) /ᶠ 2ᶠ) m)) m)
+    cond-of Made (absᶠ d <ᶠ tolerance) (made-inserted (-ᶠ p /ᶠ 2ᶠ) m)
+    (cond-of Made (0ᶠ <ᶠ d) (made-inserted ((-ᶠ p +ᶠ sqrtOf d) /ᶠ 2ᶠ) (made-inserted ((-ᶠ p -ᶠ sqrtOf d) /ᶠ 2ᶠ) m)) m)
 
 made-by-factors : (a b c d : Float) → Made (rootsByFactors a b c d)
 unfolding rootsByFactors
@@ -42,5 +42,5 @@ made-by-factors a b c d = made-quadratic _ _ _ (made-quadratic _ _ _ made-none)
 pub quartic-made : (a b c d : Float) → Made (quarticOf a b c d)
 unfolding quarticOf
 quartic-made a b c d =
-    either Made (absᶠ d <ᶠ eps && absᶠ c <ᶠ eps) (made-quadratic a b eps (made-inserted 0ᶠ made-none))
-    (either Made (absᶠ d <ᶠ eps && absᶠ a <ᶠ eps && absᶠ b <ᶠ eps) (made-inserted (-ᶠ cbrtOf c) (made-inserted 0ᶠ made-none)) (made-by-factors a b c d))
+    cond-of Made (absᶠ d <ᶠ eps && absᶠ c <ᶠ eps) (made-quadratic a b eps (made-inserted 0ᶠ made-none))
+    (cond-of Made (absᶠ d <ᶠ eps && absᶠ a <ᶠ eps && absᶠ b <ᶠ eps) (made-inserted (-ᶠ cbrtOf c) (made-inserted 0ᶠ made-none)) (made-by-factors a b c d))

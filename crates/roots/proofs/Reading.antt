@@ -14,8 +14,9 @@ use Rattle.doubles.specs.Operators.{_≤ᶠ_}
 use Rattle.doubles.specs.Constants.{0ᶠ}
 use Rattle.roots.specs.declared.list.Roots.{Roots}
 use Rattle.roots.specs.List.{noRoots, inserted, sortedFrom, rootsOf, ascendingOf}
-use Rattle.roots.specs.Reading.{AtLeastZero, insertedAll, nonNegative, equalTo, Ascending, none}
-use Rattle.roots.proofs.Cases.{by-test}
+use Rattle.doubles.specs.Value.{AtLeastZero}
+use Rattle.roots.specs.Reading.{insertedAll, nonNegative, equalTo, Ascending, none}
+use Rattle.doubles.proofs.CondLaws.{by-cases}
 use Rattle.roots.proofs.Sorting.{Members, empty, add, sorted-length, sorted-ascends, sorted-stable}
 
 -- an array of four, of which at most four are counted
@@ -35,7 +36,7 @@ module _ (l : Roots) (x : Float) where
 
   full : 4 ≤ l .count → inserted l x ≡ l
   unfolding inserted
-  full r = by-test (0ᶠ ≤ᶠ x) (λ i. rw (i, le-ltb (l .count) 4 r)) (λ i. rw i)
+  full r = by-cases (0ᶠ ≤ᶠ x) (λ i. rw (i, le-ltb (l .count) 4 r)) (λ i. rw i)
 
   left-out : (0ᶠ ≤ᶠ x) ≡ false → inserted l x ≡ l
   unfolding inserted
@@ -66,7 +67,7 @@ module _ (l : Roots) (x : Float) (later : List Float) (h : Held l) where
   step-left-out i = record { held = rw (left-out l x i) h; roots = rw (left-out l x i) (unfold nonNegative in rw i) }
 
   step : Step l x later
-  step = by-test (0ᶠ ≤ᶠ x) (λ i. by-test (ltb (l .count) 4) (λ r. step-appended i (ltb-true (l .count) 4 r)) (λ r. step-full i (ltb-false (l .count) 4 r))) step-left-out
+  step = by-cases (0ᶠ ≤ᶠ x) (λ i. by-cases (ltb (l .count) 4) (λ r. step-appended i (ltb-true (l .count) 4 r)) (λ r. step-full i (ltb-false (l .count) 4 r))) step-left-out
 
 insertions : (xs : List Float) (l : Roots) → Held l → Held (insertedAll l xs) × (rootsOf (insertedAll l xs) ≡ take 4 (rootsOf l ++ nonNegative xs))
 unfolding insertedAll
@@ -93,7 +94,7 @@ take-members (suc n) (x ∷ l) (add h m) = add h (take-members n l m)
 kept-members : (xs : List Float) → Members (nonNegative xs)
 unfolding nonNegative
 kept-members [] = empty
-kept-members (x ∷ xs) = by-test (0ᶠ ≤ᶠ x) (λ i. rw i (add i (kept-members xs))) (λ i. rw i (kept-members xs))
+kept-members (x ∷ xs) = by-cases (0ᶠ ≤ᶠ x) (λ i. rw i (add i (kept-members xs))) (λ i. rw i (kept-members xs))
 
 reading : (l : Roots) → Held l → rootsOf (ascendingOf l) ≡ sortedFrom [] (rootsOf l)
 unfolding ascendingOf

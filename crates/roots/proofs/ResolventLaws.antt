@@ -11,7 +11,7 @@ use Rattle.doubles.specs.Functions.{absᶠ, minᶠ, maxᶠ}
 use Rattle.elementary.specs.Functions.{sqrtOf}
 use Rattle.roots.specs.declared.resolvent.Zeros.{Zeros}
 use Rattle.roots.specs.Resolvent.{clampedRatio, threeZeros, fewZeros, resolventOf}
-use Rattle.roots.proofs.Cases.{by-test, either}
+use Rattle.doubles.proofs.CondLaws.{by-cases, cond-of}
 
 -- a number, not above 1 and not below -1
 pub record InRange (t : Float) : Type 0 where
@@ -25,14 +25,14 @@ record AtMostOne (t : Float) : Type 0 where
 
 min-one : (x : Float) → AtMostOne (minᶠ x 1ᶠ)
 unfolding minᶠ
-min-one x = by-test (isNan x) (λ i. rw i itself) (λ i. by-test (1ᶠ <ᶠ x) (λ j. rw (i, j) itself) (λ j. rw (i, j) (record { number = i; high = j })))
+min-one x = by-cases (isNan x) (λ i. rw i itself) (λ i. by-cases (1ᶠ <ᶠ x) (λ j. rw (i, j) itself) (λ j. rw (i, j) (record { number = i; high = j })))
   where
     itself : AtMostOne 1ᶠ
     itself = unfold ofBits lt isNan in (record { number = refl; high = refl })
 
 max-minus-one : (x : Float) → AtMostOne x → InRange (maxᶠ x (-ᶠ 1ᶠ))
 unfolding maxᶠ
-max-minus-one x h = by-test (x <ᶠ -ᶠ 1ᶠ) (λ i. rw (h .number, i) itself) (λ i. rw (h .number, i) (record { number = h .number; low = i; high = h .high }))
+max-minus-one x h = by-cases (x <ᶠ -ᶠ 1ᶠ) (λ i. rw (h .number, i) itself) (λ i. rw (h .number, i) (record { number = h .number; low = i; high = h .high }))
   where
     itself : InRange (-ᶠ 1ᶠ)
     itself = unfold ofBits neg lt isNan in (record { number = refl; low = refl; high = refl })
@@ -52,7 +52,7 @@ counted x n h k = record { low = lit≤ h; high = lit≤ k }
 
 few-count : (a u v : Float) → OneToThree (fewZeros a u v)
 unfolding fewZeros
-few-count a u v = either OneToThree (absᶠ (sqrtOf 3ᶠ *ᶠ (u -ᶠ v) /ᶠ 2ᶠ) <ᶠ eps) (counted _ 2 tt tt) (counted _ 1 tt tt)
+few-count a u v = cond-of OneToThree (absᶠ (sqrtOf 3ᶠ *ᶠ (u -ᶠ v) /ᶠ 2ᶠ) <ᶠ eps) (counted _ 2 tt tt) (counted _ 1 tt tt)
 
 three-count : (a q r : Float) → OneToThree (threeZeros a q r)
 unfolding threeZeros
@@ -65,4 +65,4 @@ resolvent-count a b c =
     let a2 = third *ᶠ third in
     let q = a2 -ᶠ b /ᶠ 3ᶠ in
     let r = (third *ᶠ (2ᶠ *ᶠ a2 -ᶠ b) +ᶠ c) /ᶠ 2ᶠ in
-    either OneToThree (r *ᶠ r <ᶠ q *ᶠ q *ᶠ q) (three-count third q r) (few-count third _ _)
+    cond-of OneToThree (r *ᶠ r <ᶠ q *ᶠ q *ᶠ q) (three-count third q r) (few-count third _ _)

@@ -8,9 +8,10 @@ use lib.Ieee.{Float}
 use lib.ListN.{length}
 use Rattle.doubles.specs.Operators.{_<ᶠ_, _≤ᶠ_, _==ᶠ_}
 use Rattle.roots.specs.List.{placed, sortedFrom}
-use Rattle.roots.specs.Reading.{AtLeastZero, equalTo, Ascending, none, one, more}
-use Rattle.roots.proofs.Cases.{by-test}
-use Rattle.roots.proofs.NonNegative.{less-trans, equals-not-less, not-less, less-at-most}
+use Rattle.doubles.specs.Value.{AtLeastZero}
+use Rattle.roots.specs.Reading.{equalTo, Ascending, none, one, more}
+use Rattle.doubles.proofs.CondLaws.{by-cases}
+use Rattle.doubles.proofs.NonNegativeLaws.{less-trans, equals-not-less, not-less, less-at-most}
 use Rattle.roots.proofs.Placing.{length-placed}
 
 -- all of a list are at least 0
@@ -23,7 +24,7 @@ pub data Members : List Float → Type 0 where
 placed-members : (x : Float) (l : List Float) → AtLeastZero x → Members l → Members (placed x l)
 unfolding placed
 placed-members x [] hx m = add hx m
-placed-members x (y ∷ l) hx (add hy m) = by-test (x <ᶠ y) (λ i. rw i (add hx (add hy m))) (λ i. rw i (add hy (placed-members x l hx m)))
+placed-members x (y ∷ l) hx (add hy m) = by-cases (x <ᶠ y) (λ i. rw i (add hx (add hy m))) (λ i. rw i (add hy (placed-members x l hx m)))
 
 rest : {x : Float} {l : List Float} → Ascending (x ∷ l) → Ascending l
 rest (one x) = none
@@ -33,12 +34,12 @@ after : (y x : Float) (l : List Float) → AtLeastZero x → Members l → (y �
 unfolding placed
 after y x [] hx m h a = more h (one x)
 after y x (z ∷ l) hx (add hz m) h (more i a) =
-    by-test (x <ᶠ z) (λ j. rw j (more h (more (less-at-most x z j) a))) (λ j. rw j (more i (after z x l hx m (not-less x z hx hz j) a)))
+    by-cases (x <ᶠ z) (λ j. rw j (more h (more (less-at-most x z j) a))) (λ j. rw j (more i (after z x l hx m (not-less x z hx hz j) a)))
 
 placed-ascends : (x : Float) (l : List Float) → AtLeastZero x → Members l → Ascending l → Ascending (placed x l)
 unfolding placed
 placed-ascends x [] hx m a = one x
-placed-ascends x (y ∷ l) hx (add hy m) a = by-test (x <ᶠ y) (λ i. rw i (more (less-at-most x y i) a)) (λ i. rw i (after y x l hx m (not-less x y hx hy i) a))
+placed-ascends x (y ∷ l) hx (add hy m) a = by-cases (x <ᶠ y) (λ i. rw i (more (less-at-most x y i) a)) (λ i. rw i (after y x l hx m (not-less x y hx hy i) a))
 
 -- no root from y on equals v, where x, which is less than y, equals v
 none-equal : (x y v : Float) (l : List Float) → AtLeastZero x → AtLeastZero v → (x ==ᶠ v) ≡ true → (x <ᶠ y) ≡ true → Members (y ∷ l) → Ascending (y ∷ l) → equalTo v (y ∷ l) ≡ []
@@ -49,12 +50,12 @@ none-equal x y v (z ∷ l) hx hv e i (add hy (add hz m)) (more j a) =
 
 equal-head : (v x : Float) (l : List Float) → equalTo v (x ∷ l) ≡ equalTo v (x ∷ []) ++ equalTo v l
 unfolding equalTo
-equal-head v x l = by-test (x ==ᶠ v) (λ e. rw e) (λ e. rw e)
+equal-head v x l = by-cases (x ==ᶠ v) (λ e. rw e) (λ e. rw e)
 
 -- x is less than y, the first of roots that ascend: among those equal to v it may as well stand last
 swapped : (x y v : Float) (l : List Float) → AtLeastZero x → AtLeastZero v → (x <ᶠ y) ≡ true → Members (y ∷ l) → Ascending (y ∷ l) → equalTo v (x ∷ []) ++ equalTo v (y ∷ l) ≡ equalTo v (y ∷ l) ++ equalTo v (x ∷ [])
 swapped x y v l hx hv i m a =
-    by-test (x ==ᶠ v) (λ e. rw (none-equal x y v l hx hv e i m a) (append-nil (equalTo v (x ∷ [])))) (λ e. rw (alone e) (sym (append-nil (equalTo v (y ∷ l)))))
+    by-cases (x ==ᶠ v) (λ e. rw (none-equal x y v l hx hv e i m a) (append-nil (equalTo v (x ∷ [])))) (λ e. rw (alone e) (sym (append-nil (equalTo v (y ∷ l)))))
   where
     alone : (x ==ᶠ v) ≡ false → equalTo v (x ∷ []) ≡ []
     alone e = unfold equalTo in rw e
@@ -63,7 +64,7 @@ placed-equal : (x v : Float) (l : List Float) → AtLeastZero x → AtLeastZero 
 unfolding placed
 placed-equal x v [] hx hv m a = unfold equalTo in refl
 placed-equal x v (y ∷ l) hx hv (add hy m) a =
-    by-test (x <ᶠ y) (λ i. rw i (equal-head v x (y ∷ l) ∙ swapped x y v l hx hv i (add hy m) a))
+    by-cases (x <ᶠ y) (λ i. rw i (equal-head v x (y ∷ l) ∙ swapped x y v l hx hv i (add hy m) a))
     (λ i. rw i
     (equal-head v y (placed x l) ∙ ap (λ (r : List Float). equalTo v (y ∷ []) ++ r) (placed-equal x v l hx hv m (rest a))
     ∙ sym (append-assoc (equalTo v (y ∷ [])) (equalTo v l) (equalTo v (x ∷ []))) ∙ ap (λ (r : List Float). r ++ equalTo v (x ∷ [])) (sym (equal-head v y l))))

@@ -4,7 +4,7 @@ use mathlib.Core.List.{[], _∷_}
 use lib.Ieee.{nan, binary64, ofBits, add, sub, mul, div, neg, lt, le, eq, isNan}
 use Rattle.doubles.specs.Constants.{0ᶠ, 1ᶠ, 2ᶠ, 3ᶠ, 4ᶠ, 6ᶠ, 8ᶠ}
 use Rattle.doubles.specs.Functions.{absᶠ, minᶠ, maxᶠ}
-use Rattle.elementary.specs.Functions.{sqrtOf, cbrtOf, cosineOf, sineOf}
+use Rattle.elementary.specs.Functions.{sqrtOf, cbrtOf, thirdAngleCosineOf, thirdAngleSineOf}
 use Rattle.roots.specs.declared.list.Roots.{Roots}
 use Rattle.roots.specs.List.{inserted, placed, sortedFrom, ascendingOf, reading}
 use Rattle.roots.specs.Resolvent.{clampedRatio, threeZeros, cubeRoot, quotient, fewZeros, resolventOf}
@@ -25,7 +25,7 @@ pub record Resolvents : Type 0 where
   pub of-nan : resolventOf nan 0ᶠ 0ᶠ ≡ record { x = nan ∷ nan ∷ nan ∷ []; count = 1 }
 
 pub resolvents : Resolvents
-unfolding add sub mul div neg lt le eq isNan ofBits absᶠ minᶠ maxᶠ sqrtOf cbrtOf cosineOf sineOf resolventOf threeZeros clampedRatio cubeRoot quotient fewZeros
+unfolding add sub mul div neg lt le eq isNan ofBits absᶠ minᶠ maxᶠ sqrtOf cbrtOf thirdAngleCosineOf thirdAngleSineOf resolventOf threeZeros clampedRatio cubeRoot quotient fewZeros
 resolvents =
     record {
       one-zero = refl;
@@ -57,7 +57,7 @@ pub record SimpleQuartics : Type 0 where
   pub cube-root : reading (quarticOf 0ᶠ 0ᶠ (neg 8ᶠ) 0ᶠ) ≡ 0ᶠ ∷ 2ᶠ ∷ []
 
 pub simple-quartics : SimpleQuartics
-unfolding add sub mul div neg lt le eq isNan ofBits absᶠ minᶠ maxᶠ sqrtOf cbrtOf cosineOf sineOf resolventOf threeZeros clampedRatio cubeRoot quotient fewZeros quarticOf rootsByFactors withQuadratic largestZero larger factorsOf equalConstants inserted ascendingOf sortedFrom placed
+unfolding add sub mul div neg lt le eq isNan ofBits absᶠ minᶠ maxᶠ sqrtOf cbrtOf thirdAngleCosineOf thirdAngleSineOf resolventOf threeZeros clampedRatio cubeRoot quotient fewZeros quarticOf rootsByFactors withQuadratic largestZero larger factorsOf equalConstants inserted ascendingOf sortedFrom placed
 simple-quartics =
     record {
       double-root = refl;
@@ -70,25 +70,25 @@ simple-quartics =
 
 -- x⁴ - 1, whose resolvent has one zero: no root of the one factor, two of the other, of which one is negative
 pub factors-by-one-zero : reading (quarticOf 0ᶠ 0ᶠ 0ᶠ (neg 1ᶠ)) ≡ 1ᶠ ∷ []
-unfolding add sub mul div neg lt le eq isNan ofBits absᶠ minᶠ maxᶠ sqrtOf cbrtOf cosineOf sineOf resolventOf threeZeros clampedRatio cubeRoot quotient fewZeros quarticOf rootsByFactors withQuadratic largestZero larger factorsOf equalConstants inserted ascendingOf sortedFrom placed
+unfolding add sub mul div neg lt le eq isNan ofBits absᶠ minᶠ maxᶠ sqrtOf cbrtOf thirdAngleCosineOf thirdAngleSineOf resolventOf threeZeros clampedRatio cubeRoot quotient fewZeros quarticOf rootsByFactors withQuadratic largestZero larger factorsOf equalConstants inserted ascendingOf sortedFrom placed
 factors-by-one-zero = refl
 
 -- x⁴ - 3x² - 2x, whose resolvent has two zeros, the second the larger
 pub factors-by-two-zeros : reading (quarticOf 0ᶠ (neg 3ᶠ) (neg 2ᶠ) 0ᶠ) ≡ 0ᶠ ∷ 2ᶠ ∷ []
-unfolding add sub mul div neg lt le eq isNan ofBits absᶠ minᶠ maxᶠ sqrtOf cbrtOf cosineOf sineOf resolventOf threeZeros clampedRatio cubeRoot quotient fewZeros quarticOf rootsByFactors withQuadratic largestZero larger factorsOf equalConstants inserted ascendingOf sortedFrom placed
+unfolding add sub mul div neg lt le eq isNan ofBits absᶠ minᶠ maxᶠ sqrtOf cbrtOf thirdAngleCosineOf thirdAngleSineOf resolventOf threeZeros clampedRatio cubeRoot quotient fewZeros quarticOf rootsByFactors withQuadratic largestZero larger factorsOf equalConstants inserted ascendingOf sortedFrom placed
 factors-by-two-zeros = refl
 
 -- x⁴ - 2x³ - x² + 2x, whose resolvent has three zeros
 pub factors-by-three-zeros : reading (quarticOf (neg 2ᶠ) (neg 1ᶠ) 2ᶠ 0ᶠ) ≡ 0ᶠ ∷ 1ᶠ ∷ 2ᶠ ∷ []
-unfolding add sub mul div neg lt le eq isNan ofBits absᶠ minᶠ maxᶠ sqrtOf cbrtOf cosineOf sineOf resolventOf threeZeros clampedRatio cubeRoot quotient fewZeros quarticOf rootsByFactors withQuadratic largestZero larger factorsOf equalConstants inserted ascendingOf sortedFrom placed
+unfolding add sub mul div neg lt le eq isNan ofBits absᶠ minᶠ maxᶠ sqrtOf cbrtOf thirdAngleCosineOf thirdAngleSineOf resolventOf threeZeros clampedRatio cubeRoot quotient fewZeros quarticOf rootsByFactors withQuadratic largestZero larger factorsOf equalConstants inserted ascendingOf sortedFrom placed
 factors-by-three-zeros = refl
 
 -- x⁴ - x³ - x + 1, whose factors have the same constant
 pub equal-constants : reading (quarticOf (neg 1ᶠ) 0ᶠ (neg 1ᶠ) 1ᶠ) ≡ 1ᶠ ∷ []
-unfolding add sub mul div neg lt le eq isNan ofBits absᶠ minᶠ maxᶠ sqrtOf cbrtOf cosineOf sineOf resolventOf threeZeros clampedRatio cubeRoot quotient fewZeros quarticOf rootsByFactors withQuadratic largestZero larger factorsOf equalConstants inserted ascendingOf sortedFrom placed
+unfolding add sub mul div neg lt le eq isNan ofBits absᶠ minᶠ maxᶠ sqrtOf cbrtOf thirdAngleCosineOf thirdAngleSineOf resolventOf threeZeros clampedRatio cubeRoot quotient fewZeros quarticOf rootsByFactors withQuadratic largestZero larger factorsOf equalConstants inserted ascendingOf sortedFrom placed
 equal-constants = refl
 
 -- x⁴ - 4x³ + 6x² - 4x + 1, whose factors are equal: a root of each, and both are kept
 pub equal-factors : reading (quarticOf (neg 4ᶠ) 6ᶠ (neg 4ᶠ) 1ᶠ) ≡ 1ᶠ ∷ 1ᶠ ∷ []
-unfolding add sub mul div neg lt le eq isNan ofBits absᶠ minᶠ maxᶠ sqrtOf cbrtOf cosineOf sineOf resolventOf threeZeros clampedRatio cubeRoot quotient fewZeros quarticOf rootsByFactors withQuadratic largestZero larger factorsOf equalConstants inserted ascendingOf sortedFrom placed
+unfolding add sub mul div neg lt le eq isNan ofBits absᶠ minᶠ maxᶠ sqrtOf cbrtOf thirdAngleCosineOf thirdAngleSineOf resolventOf threeZeros clampedRatio cubeRoot quotient fewZeros quarticOf rootsByFactors withQuadratic largestZero larger factorsOf equalConstants inserted ascendingOf sortedFrom placed
 equal-factors = refl

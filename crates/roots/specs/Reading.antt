@@ -8,9 +8,6 @@ use Rattle.doubles.specs.Constants.{0ᶠ}
 use Rattle.roots.specs.declared.list.Roots.{Roots}
 use Rattle.roots.specs.List.{inserted}
 
-abbrev pub AtLeastZero : Float → Type 0
-AtLeastZero x = (0ᶠ ≤ᶠ x) ≡ true
-
 -- the list after the insertions of all of xs
 unfoldable pub insertedAll : Roots → List Float → Roots
 insertedAll l [] = l

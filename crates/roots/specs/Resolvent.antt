@@ -5,7 +5,7 @@ use lib.Ieee.{Float, binary64, ofBits}
 use Rattle.doubles.specs.Operators.{_+ᶠ_, _-ᶠ_, _*ᶠ_, _/ᶠ_, -ᶠ_, _<ᶠ_, _==ᶠ_}
 use Rattle.doubles.specs.Constants.{0ᶠ, 1ᶠ, 2ᶠ, 3ᶠ, eps}
 use Rattle.doubles.specs.Functions.{absᶠ, minᶠ, maxᶠ}
-use Rattle.elementary.specs.Functions.{sqrtOf, cbrtOf, cosineOf, sineOf}
+use Rattle.elementary.specs.Functions.{sqrtOf, cbrtOf, thirdAngleCosineOf, thirdAngleSineOf}
 use Rattle.roots.specs.declared.resolvent.Zeros.{Zeros}
 
 -- COS_120, -0.50, and SIN_120, 0.866_025_403_784_438_6
@@ -24,8 +24,8 @@ clampedRatio q qSqrt r = maxᶠ (minᶠ (r /ᶠ (q *ᶠ qSqrt)) 1ᶠ) (-ᶠ 1ᶠ
 unfoldable pub threeZeros : Float → Float → Float → Zeros
 threeZeros a q r =
     let t = clampedRatio q (sqrtOf q) r in
-    let ux = cosineOf t *ᶠ (-ᶠ 2ᶠ *ᶠ sqrtOf q) in
-    let uyi = sineOf t *ᶠ (-ᶠ 2ᶠ *ᶠ sqrtOf q) in
+    let ux = thirdAngleCosineOf t *ᶠ (-ᶠ 2ᶠ *ᶠ sqrtOf q) in
+    let uyi = thirdAngleSineOf t *ᶠ (-ᶠ 2ᶠ *ᶠ sqrtOf q) in
     let x0 = ux -ᶠ a in
     let x1 = ux *ᶠ cos120 -ᶠ uyi *ᶠ sin120 -ᶠ a in
     let x2 = ux *ᶠ cos120 +ᶠ uyi *ᶠ sin120 -ᶠ a in

@@ -7,6 +7,3 @@ pub use list::Roots;
 pub use quartic::solve_quart_monic_coeffs;
 pub use resolvent::Zeros;
 pub use resolvent::solve_resolvent;
-
-// f64::EPSILON, document 01's EPS: 2^-52.
-const EPS: f64 = 2.220446049250313e-16;

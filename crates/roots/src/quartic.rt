@@ -1,25 +1,25 @@
 // `solve_quart_monic_coeffs`: the roots of a quartic, by its two quadratic factors.
 ghost use mathlib.Core.Path.{_≡_};
 ghost use Rattle.roots.specs.Quartic.{withQuadratic, larger, largestZero, equalConstants, factorsOf, rootsByFactors, quarticOf};
-use crate::EPS;
 use crate::list::Roots;
 use crate::resolvent::Zeros;
 use crate::resolvent::solve_resolvent;
 use cbrt::cbrt;
+use doubles::EPSILON;
 use doubles::abs;
 use sqrt::sqrt;
 
-const EPS_M_BY_16: f64 = 16.0 * EPS;
+const EPS_M_BY_16: f64 = 16.0 * EPSILON;
 
 // The roots of x⁴ + a x³ + b x² + c x + d that are at least 0.
 pub fn solve_quart_monic_coeffs(a: f64, b: f64, c: f64, d: f64) -> Roots
     ensures { λ r. ⌜ r ≡ quarticOf a b c d ⌝ }
 {
-    let no_constant = abs(d) < EPS;
-    if no_constant & (abs(c) < EPS) {
-        return with_quadratic(Roots::new().insert(0.0), a, b, EPS);
+    let no_constant = abs(d) < EPSILON;
+    if no_constant & (abs(c) < EPSILON) {
+        return with_quadratic(Roots::new().insert(0.0), a, b, EPSILON);
     }
-    if no_constant & (abs(a) < EPS) & (abs(b) < EPS) {
+    if no_constant & (abs(a) < EPSILON) & (abs(b) < EPSILON) {
         return Roots::new().insert(0.0).insert(-cbrt(c));
     }
     roots_by_factors(a, b, c, d)
@@ -84,7 +84,7 @@ fn factors_of(a: f64, b: f64, c: f64, d: f64, y: f64) -> Factors
     ensures { λ f. ⌜ f ≡ factorsOf a b c d y ⌝ }
 {
     let discriminant = y * y - 4.0 * d;
-    if abs(discriminant) < EPS {
+    if abs(discriminant) < EPSILON {
         return equal_constants(a, b, y);
     }
     let sqrt_d = sqrt(discriminant);
@@ -104,7 +104,7 @@ fn equal_constants(a: f64, b: f64, y: f64) -> Factors
 {
     let q = y / 2.0;
     let discriminant = a * a - 4.0 * (b - y);
-    if abs(discriminant) < EPS {
+    if abs(discriminant) < EPSILON {
         let p = a / 2.0;
         return Factors {
             p1: p,

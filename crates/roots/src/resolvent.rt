@@ -1,13 +1,13 @@
 // `solve_resolvent`: the zeros of a cubic from which a quartic's factors come.
 ghost use mathlib.Core.Path.{_≡_};
 ghost use Rattle.roots.specs.Resolvent.{clampedRatio, threeZeros, cubeRoot, quotient, fewZeros, resolventOf};
-use crate::EPS;
 use cbrt::cbrt;
+use doubles::EPSILON;
 use doubles::abs;
 use doubles::max;
 use doubles::min;
 use sqrt::sqrt;
-use third_angle::cosine_pair;
+use third_angle_pair::third_angle_pair;
 
 const COS_120: f64 = -0.50;
 
@@ -85,7 +85,7 @@ fn few_zeros(third: f64, u: f64, v: f64) -> Zeros
     let x0 = (u + v) - third;
     let x1 = -(u + v) / 2.0 - third;
     let x2 = SQRT_3 * (u - v) / 2.0;
-    if abs(x2) < EPS {
+    if abs(x2) < EPSILON {
         return Zeros {
             x: [x0, x1, x1],
             count: 2,

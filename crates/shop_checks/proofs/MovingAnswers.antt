@@ -10,18 +10,18 @@ use Rattle.profile.specs.declared.Target.{Target}
 use Rattle.profile.specs.declared.Limits.{Limits}
 use Rattle.roots.specs.List.{rootsOf}
 use Rattle.phase_times.specs.Constants.{constantsOf}
-use Rattle.phase_times.specs.GetProfileTests.{hasZeroLimit, endsAtRest}
+use Rattle.get_profile.specs.Choices.{hasZeroLimit, endsAtRest}
 use Rattle.phase_times.specs.declared.constants.Constants.{Constants}
 use Rattle.candidates.specs.Try.{Try}
 use Rattle.candidates.specs.List.{freshList}
 use Rattle.candidates.specs.declared.Candidates.{Candidates}
-use Rattle.position_third_step1.specs.Plan.{found, tries}
+use Rattle.position_third_step1.specs.CheckTree.{found, tries}
 use Rattle.position_third_step1.specs.TimeAllNoneAcc0Acc1.{triesFor, rootTries}
 use Rattle.position_third_step1.specs.declared.none_acc0_acc1.RootTries.{RootTries}
 use Rattle.get_profile.specs.GetProfile.{moving, tryFamilies, selectedFrom, getProfileAnswer}
 use Rattle.get_profile.proofs.FamiliesLaws.{first-finds}
 use Rattle.get_profile.proofs.SearchLaws.{to-motion, searched-is}
-use Rattle.planner.specs.Plan.{inputOf}
+use Rattle.planner.specs.Answers.{inputOf}
 use Rattle.planner.specs.declared.Move.{Move}
 
 -- what a polynomial's tries find, where its roots are known

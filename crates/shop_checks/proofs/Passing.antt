@@ -13,7 +13,7 @@ use Rattle.roots.specs.List.{inserted, placed, sortedFrom, ascendingOf, rootsOf
 use Rattle.phase_times.specs.declared.constants.Constants.{Constants}
 use Rattle.candidates.specs.Try.{passes, profileOf, Try}
 use Rattle.candidates.specs.declared.Candidates.{Candidates}
-use Rattle.position_third_step1.specs.Plan.{onlyIf, found, tries, tryOf}
+use Rattle.position_third_step1.specs.CheckTree.{onlyIf, found, tries, tryOf}
 use Rattle.position_third_step1.specs.TimeAllVel.{allVelTries, timeAllVel}
 use Rattle.position_third_step1.specs.TimeAcc0Acc1.{acc0Acc1Solutions, acc0Acc1Tries, timeAcc0Acc1}
 use Rattle.position_third_step1.specs.TimeAllNoneAcc0Acc1.{rootsIf, noneRoots, acc0Roots, acc1Roots, reachedBy, timesBy, triesFor, noneAcc0Acc1Tries, rootTries, timeAllNoneAcc0Acc1}
@@ -21,7 +21,7 @@ use Rattle.block.specs.declared.Stretch.the-variants.{Between}
 use Rattle.block.specs.declared.Answer.{Answer}
 use Rattle.get_profile.specs.GetProfile.{moving, selectedFrom}
 use Rattle.get_profile.proofs.FamiliesLaws.{each-on, last-of-each}
-use Rattle.planner.specs.Plan.{finiteStart, finiteTarget, finiteLimits, finiteMove, wrongSign, wrongDuration, planOf, inputOf}
+use Rattle.planner.specs.Answers.{finiteStart, finiteTarget, finiteLimits, finiteMove, wrongSign, wrongDuration, answerOf, inputOf}
 use Rattle.shop_checks.specs.WorkedMoves.{passing}
 use Rattle.shop_checks.proofs.MovingAnswers.{by-roots, moving-answer}
 use Rattle.doubles.specs.Functions.{absᶠ, minᶠ, maxᶠ}
@@ -29,14 +29,14 @@ use Rattle.profile.specs.Boundary.{withBoundary, emptyProfile}
 use Rattle.profile.specs.Limits.{swappedLimits, directionOf, boundsOf}
 use Rattle.profile_rows.specs.Rows.{sums, jerkIf, jerks, rowAfter, storedIf, outerRow, middleRow, rowsOf}
 use Rattle.profile_check.specs.Check.{timesPass, phasesPass, sumPasses, zeroPasses, zerosPass, endPasses, rowsPass, accepted, filled}
-use Rattle.elementary.specs.Functions.{sqrtOf, cbrtOf, cosineOf, sineOf}
+use Rattle.elementary.specs.Functions.{sqrtOf, cbrtOf, thirdAngleCosineOf, thirdAngleSineOf}
 use Rattle.roots.specs.Quartic.{withQuadratic, larger, largestZero, factorsOf, rootsByFactors, quarticOf}
 use Rattle.roots.specs.Resolvent.{clampedRatio, threeZeros, cubeRoot, quotient, fewZeros, resolventOf}
 use Rattle.trees.specs.InTurn.{answered, inTurn}
 use Rattle.trees.specs.Tree.{run}
 use Rattle.candidates.specs.List.{stored, added, freshList}
 use Rattle.phase_times.specs.Constants.{constantsOf}
-use Rattle.phase_times.specs.GetProfileTests.{hasZeroLimit, endsAtRest}
+use Rattle.get_profile.specs.Choices.{hasZeroLimit, endsAtRest}
 use Rattle.phase_times.specs.TimeAcc0Acc1.{acc0Acc1Radicand, acc0Acc1H1, acc0Acc1H2, acc0Acc1H3, admitsAcc0Acc1Solution2, admitsAcc0Acc1Solution1, timesAcc0Acc1Solution2, timesAcc0Acc1Solution1}
 use Rattle.phase_times.specs.TimeAllVel.{tAcc0Radicand, tAcc1Radicand, t3Acc0Acc1Vel, timesAcc0Acc1Vel, timesAcc1Vel, timesAcc0Vel, timesVel}
 use Rattle.phase_times_quartic.specs.CorrectionAcc1.{origAcc1, derivAcc1, firstCorrectionAcc1, thirdCorrectionAcc1, secondCorrectionAcc1, correctedAcc1}
@@ -94,7 +94,7 @@ module _ (c : Candidates) (xs : List Try) where
   acc0-up = refl
 
   acc1-up : found (tries false c (rootTries start target k up (acc1Roots start target k up) xs)) ≡ found (tries false c xs)
-  unfolding run inTurn answered onlyIf triesFor reachedBy timesBy isSkipped timesAcc1 correctedAcc1 firstCorrectionAcc1 secondCorrectionAcc1 thirdCorrectionAcc1 origAcc1 derivAcc1 acc1Roots rootsIf h0Acc1 h2Acc1 h3Acc1 polynomAcc1 rangeAcc1 hasSolution quarticOf rootsByFactors withQuadratic larger largestZero factorsOf resolventOf threeZeros clampedRatio cubeRoot quotient fewZeros inserted ascendingOf sortedFrom placed sqrtOf cbrtOf cosineOf sineOf minᶠ maxᶠ isNan passes accepted timesPass swappedLimits constantsOf ofBits add sub mul div neg lt le eq absᶠ
+  unfolding run inTurn answered onlyIf triesFor reachedBy timesBy isSkipped timesAcc1 correctedAcc1 firstCorrectionAcc1 secondCorrectionAcc1 thirdCorrectionAcc1 origAcc1 derivAcc1 acc1Roots rootsIf h0Acc1 h2Acc1 h3Acc1 polynomAcc1 rangeAcc1 hasSolution quarticOf rootsByFactors withQuadratic larger largestZero factorsOf resolventOf threeZeros clampedRatio cubeRoot quotient fewZeros inserted ascendingOf sortedFrom placed sqrtOf cbrtOf thirdAngleCosineOf thirdAngleSineOf minᶠ maxᶠ isNan passes accepted timesPass swappedLimits constantsOf ofBits add sub mul div neg lt le eq absᶠ
   acc1-up = refl
 
 none-acc0-acc1-up : (c : Candidates) → found (timeAllNoneAcc0Acc1 c start target k up false) ≡ c
@@ -102,7 +102,7 @@ unfolding noneAcc0Acc1Tries run inTurn
 none-acc0-acc1-up c = none-up c _ ∙ acc0-up _ _ ∙ acc1-up _ []
 
 none-roots-down : rootsOf (noneRoots start target k down .roots) ≡ 0ᶠ ∷ ofBits binary64 0x4000_0000_0000_0001 ∷ ofBits binary64 0x4004_d82b_4461_59f2 ∷ []
-unfolding noneRoots rootsIf h2None polynomNone rangeNone quarticOf rootsByFactors withQuadratic larger largestZero factorsOf resolventOf threeZeros clampedRatio inserted ascendingOf sortedFrom placed sqrtOf cosineOf sineOf minᶠ maxᶠ isNan swappedLimits constantsOf ofBits add sub mul div neg lt le eq absᶠ
+unfolding noneRoots rootsIf h2None polynomNone rangeNone quarticOf rootsByFactors withQuadratic larger largestZero factorsOf resolventOf threeZeros clampedRatio inserted ascendingOf sortedFrom placed sqrtOf thirdAngleCosineOf thirdAngleSineOf minᶠ maxᶠ isNan swappedLimits constantsOf ofBits add sub mul div neg lt le eq absᶠ
 none-roots-down = refl
 
 module _ (c : Candidates) (xs : List Try) where
@@ -118,7 +118,7 @@ module _ (c : Candidates) (xs : List Try) where
   acc0-down = refl
 
   acc1-down : found (tries false c (rootTries start target k down (acc1Roots start target k down) xs)) ≡ found (tries false c xs)
-  unfolding run inTurn answered onlyIf triesFor reachedBy timesBy isSkipped timesAcc1 correctedAcc1 firstCorrectionAcc1 secondCorrectionAcc1 thirdCorrectionAcc1 origAcc1 derivAcc1 acc1Roots rootsIf h0Acc1 h2Acc1 h3Acc1 polynomAcc1 rangeAcc1 hasSolution quarticOf rootsByFactors withQuadratic larger largestZero factorsOf resolventOf threeZeros clampedRatio cubeRoot quotient fewZeros inserted ascendingOf sortedFrom placed sqrtOf cbrtOf cosineOf sineOf minᶠ maxᶠ isNan passes accepted timesPass phasesPass sumPasses sums swappedLimits constantsOf ofBits add sub mul div neg lt le eq absᶠ
+  unfolding run inTurn answered onlyIf triesFor reachedBy timesBy isSkipped timesAcc1 correctedAcc1 firstCorrectionAcc1 secondCorrectionAcc1 thirdCorrectionAcc1 origAcc1 derivAcc1 acc1Roots rootsIf h0Acc1 h2Acc1 h3Acc1 polynomAcc1 rangeAcc1 hasSolution quarticOf rootsByFactors withQuadratic larger largestZero factorsOf resolventOf threeZeros clampedRatio cubeRoot quotient fewZeros inserted ascendingOf sortedFrom placed sqrtOf cbrtOf thirdAngleCosineOf thirdAngleSineOf minᶠ maxᶠ isNan passes accepted timesPass phasesPass sumPasses sums swappedLimits constantsOf ofBits add sub mul div neg lt le eq absᶠ
   acc1-down = refl
 
 none-acc0-acc1-down : (c : Candidates) → found (timeAllNoneAcc0Acc1 c start target k down false) ≡ c
@@ -157,14 +157,14 @@ moving-finds c =
     (each-on _ _ c (sym (acc0-acc1-up c))
     (each-on _ _ c (sym (acc0-acc1-down c)) (vel-finds (added c slow)))))
 
-plan-is : planOf passing ≡ selectedFrom (added (added (freshList (inputOf passing)) slow) fast)
-unfolding planOf finiteMove finiteStart finiteTarget finiteLimits wrongSign wrongDuration hasZeroLimit endsAtRest added stored freshList absᶠ neg lt eq ofBits
+plan-is : answerOf passing ≡ selectedFrom (added (added (freshList (inputOf passing)) slow) fast)
+unfolding answerOf finiteMove finiteStart finiteTarget finiteLimits wrongSign wrongDuration hasZeroLimit endsAtRest added stored freshList absᶠ neg lt eq ofBits
 plan-is = moving-answer passing refl refl (moving-finds _) (lit< tt)
 
-pub passing-accepted : planOf passing .refusal ≡ 0
+pub passing-accepted : answerOf passing .refusal ≡ 0
 unfolding selected ofTwo near total planned added stored freshList profileOf filled withBoundary emptyProfile sums jerkIf jerks rowAfter storedIf outerRow middleRow rowsOf directionOf swappedLimits absᶠ add sub mul div neg lt ofBits
 passing-accepted = ap (λ (r : Answer). r .refusal) plan-is
 
-pub passing-blocked : planOf passing .block .a .stretch ≡ Between 3ᶠ 6ᶠ
+pub passing-blocked : answerOf passing .block .a .stretch ≡ Between 3ᶠ 6ᶠ
 unfolding selected ofTwo near total duration planned blockOf intervalBetween added stored freshList profileOf filled withBoundary emptyProfile sums jerkIf jerks rowAfter storedIf outerRow middleRow rowsOf directionOf swappedLimits absᶠ add sub mul div neg lt ofBits
 passing-blocked = ap (λ (r : Answer). r .block .a .stretch) plan-is

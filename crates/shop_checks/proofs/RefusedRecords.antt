@@ -2,7 +2,7 @@
 use mathlib.Core.Path.{refl}
 use lib.Ieee.{ofBits, toBits, neg}
 use Rattle.block.specs.Blocks.{refused}
-use Rattle.planner.specs.Plan.{finiteStart, finiteMove, planOf}
+use Rattle.planner.specs.Answers.{finiteStart, finiteMove, answerOf}
 use Rattle.decimals.specs.Decimal.{decimal}
 use Rattle.moves.specs.Records.{double, startOf, targetOf, limitsOf, moveOf, isMalformed, recordOf}
 use Rattle.moves.specs.Lines.{refusalFields, answerFields, lineOf}
@@ -10,7 +10,7 @@ use Rattle.shop_checks.specs.Records.{recordBytes}
 use Rattle.shop_checks.specs.WorkedMoves.{RefusedRecords}
 
 pub refused-records : RefusedRecords
-unfolding recordBytes recordOf isMalformed moveOf startOf targetOf limitsOf double lineOf answerFields refusalFields decimal planOf finiteMove finiteStart refused toBits ofBits neg
+unfolding recordBytes recordOf isMalformed moveOf startOf targetOf limitsOf double lineOf answerFields refusalFields decimal answerOf finiteMove finiteStart refused toBits ofBits neg
 refused-records =
     record {
       cut = refl;

@@ -13,13 +13,13 @@ use Rattle.roots.specs.List.{inserted, placed, sortedFrom, ascendingOf, rootsOf
 use Rattle.phase_times.specs.declared.constants.Constants.{Constants}
 use Rattle.candidates.specs.Try.{passes, profileOf, Try}
 use Rattle.candidates.specs.declared.Candidates.{Candidates}
-use Rattle.position_third_step1.specs.Plan.{onlyIf, found, tries, tryOf}
+use Rattle.position_third_step1.specs.CheckTree.{onlyIf, found, tries, tryOf}
 use Rattle.position_third_step1.specs.TimeAllVel.{allVelTries, timeAllVel}
 use Rattle.position_third_step1.specs.TimeAcc0Acc1.{acc0Acc1Solutions, acc0Acc1Tries, timeAcc0Acc1}
 use Rattle.position_third_step1.specs.TimeAllNoneAcc0Acc1.{rootsIf, noneRoots, acc0Roots, acc1Roots, reachedBy, timesBy, triesFor, noneAcc0Acc1Tries, rootTries, timeAllNoneAcc0Acc1}
 use Rattle.get_profile.specs.GetProfile.{moving, selectedFrom}
 use Rattle.get_profile.proofs.FamiliesLaws.{each-on, last-of-each}
-use Rattle.planner.specs.Plan.{finiteStart, finiteTarget, finiteLimits, finiteMove, wrongSign, wrongDuration, planOf, inputOf}
+use Rattle.planner.specs.Answers.{finiteStart, finiteTarget, finiteLimits, finiteMove, wrongSign, wrongDuration, answerOf, inputOf}
 use Rattle.shop_checks.specs.WorkedMoves.{turning}
 use Rattle.shop_checks.proofs.MovingAnswers.{by-roots, moving-answer}
 use Rattle.doubles.specs.Functions.{absᶠ, minᶠ, maxᶠ}
@@ -27,14 +27,14 @@ use Rattle.profile.specs.Boundary.{withBoundary, emptyProfile}
 use Rattle.profile.specs.Limits.{swappedLimits, directionOf, boundsOf}
 use Rattle.profile_rows.specs.Rows.{sums, jerkIf, jerks, rowAfter, storedIf, outerRow, middleRow, rowsOf}
 use Rattle.profile_check.specs.Check.{timesPass, phasesPass, sumPasses, zeroPasses, zerosPass, endPasses, rowsPass, accepted, filled}
-use Rattle.elementary.specs.Functions.{sqrtOf, cbrtOf, cosineOf, sineOf}
+use Rattle.elementary.specs.Functions.{sqrtOf, cbrtOf, thirdAngleCosineOf, thirdAngleSineOf}
 use Rattle.roots.specs.Quartic.{withQuadratic, larger, largestZero, factorsOf, rootsByFactors, quarticOf}
 use Rattle.roots.specs.Resolvent.{clampedRatio, threeZeros, cubeRoot, quotient, fewZeros, resolventOf}
 use Rattle.trees.specs.InTurn.{answered, inTurn}
 use Rattle.trees.specs.Tree.{run}
 use Rattle.candidates.specs.List.{stored, added, freshList}
 use Rattle.phase_times.specs.Constants.{constantsOf}
-use Rattle.phase_times.specs.GetProfileTests.{hasZeroLimit, endsAtRest}
+use Rattle.get_profile.specs.Choices.{hasZeroLimit, endsAtRest}
 use Rattle.phase_times.specs.TimeAcc0Acc1.{acc0Acc1Radicand, acc0Acc1H1, acc0Acc1H2, acc0Acc1H3, admitsAcc0Acc1Solution2, admitsAcc0Acc1Solution1, timesAcc0Acc1Solution2, timesAcc0Acc1Solution1}
 use Rattle.phase_times.specs.TimeAllVel.{tAcc0Radicand, tAcc1Radicand, t3Acc0Acc1Vel, timesAcc0Acc1Vel, timesAcc1Vel, timesAcc0Vel, timesVel}
 use Rattle.phase_times_quartic.specs.CorrectionAcc1.{origAcc1, derivAcc1, firstCorrectionAcc1, thirdCorrectionAcc1, secondCorrectionAcc1, correctedAcc1}
@@ -79,7 +79,7 @@ fourth = tryOf start target down None (0ᶠ ∷ 0ᶠ ∷ ofBits binary64 0x3ff0_
 -- ---- `time_all_none_acc0_acc1`. Where roots are computed apart from their tries, the two together take more steps than one declaration may
 
 none-roots-up : rootsOf (noneRoots start target k up .roots) ≡ ofBits binary64 0x3fda_8279_99fc_ef34 ∷ ofBits binary64 0x3fef_ffff_f4d8_3354 ∷ ofBits binary64 0x3ff0_0000_0593_e656 ∷ []
-unfolding noneRoots rootsIf h2None polynomNone rangeNone quarticOf rootsByFactors withQuadratic larger largestZero factorsOf resolventOf threeZeros clampedRatio inserted ascendingOf sortedFrom placed sqrtOf cosineOf sineOf minᶠ maxᶠ isNan swappedLimits constantsOf ofBits add sub mul div neg lt le eq absᶠ
+unfolding noneRoots rootsIf h2None polynomNone rangeNone quarticOf rootsByFactors withQuadratic larger largestZero factorsOf resolventOf threeZeros clampedRatio inserted ascendingOf sortedFrom placed sqrtOf thirdAngleCosineOf thirdAngleSineOf minᶠ maxᶠ isNan swappedLimits constantsOf ofBits add sub mul div neg lt le eq absᶠ
 none-roots-up = refl
 
 module _ (c : Candidates) (xs : List Try) where
@@ -95,7 +95,7 @@ module _ (c : Candidates) (xs : List Try) where
   acc0-up = refl
 
   acc1-up : found (tries false c (rootTries start target k up (acc1Roots start target k up) xs)) ≡ found (tries false c xs)
-  unfolding run inTurn answered onlyIf triesFor reachedBy timesBy isSkipped timesAcc1 correctedAcc1 firstCorrectionAcc1 secondCorrectionAcc1 thirdCorrectionAcc1 origAcc1 derivAcc1 acc1Roots rootsIf h0Acc1 h2Acc1 h3Acc1 polynomAcc1 rangeAcc1 hasSolution quarticOf rootsByFactors withQuadratic larger largestZero factorsOf resolventOf threeZeros clampedRatio cubeRoot quotient fewZeros inserted ascendingOf sortedFrom placed sqrtOf cbrtOf cosineOf sineOf minᶠ maxᶠ isNan passes accepted timesPass swappedLimits constantsOf ofBits add sub mul div neg lt le eq absᶠ
+  unfolding run inTurn answered onlyIf triesFor reachedBy timesBy isSkipped timesAcc1 correctedAcc1 firstCorrectionAcc1 secondCorrectionAcc1 thirdCorrectionAcc1 origAcc1 derivAcc1 acc1Roots rootsIf h0Acc1 h2Acc1 h3Acc1 polynomAcc1 rangeAcc1 hasSolution quarticOf rootsByFactors withQuadratic larger largestZero factorsOf resolventOf threeZeros clampedRatio cubeRoot quotient fewZeros inserted ascendingOf sortedFrom placed sqrtOf cbrtOf thirdAngleCosineOf thirdAngleSineOf minᶠ maxᶠ isNan passes accepted timesPass swappedLimits constantsOf ofBits add sub mul div neg lt le eq absᶠ
   acc1-up = refl
 
 none-acc0-acc1-up : (c : Candidates) → found (timeAllNoneAcc0Acc1 c start target k up false) ≡ added (added (added c first) second) third
@@ -107,7 +107,7 @@ unfolding noneRoots rootsIf h2None polynomNone rangeNone quarticOf rootsByFactor
 none-roots-down = refl
 
 acc0-roots-down : rootsOf (acc0Roots start target k down .roots) ≡ ofBits binary64 0x3fef_ffff_f306_ef9e ∷ ofBits binary64 0x3ff0_0000_067c_8830 ∷ ofBits binary64 0x4003_504f_333f_9de6 ∷ []
-unfolding acc0Roots rootsIf h0Acc0 h2Acc0 polynomAcc0 rangeAcc0 shiftedQuartic hasSolution quarticOf rootsByFactors withQuadratic larger largestZero factorsOf resolventOf threeZeros clampedRatio inserted ascendingOf sortedFrom placed sqrtOf cosineOf sineOf minᶠ maxᶠ isNan swappedLimits constantsOf ofBits add sub mul div neg lt le eq absᶠ
+unfolding acc0Roots rootsIf h0Acc0 h2Acc0 polynomAcc0 rangeAcc0 shiftedQuartic hasSolution quarticOf rootsByFactors withQuadratic larger largestZero factorsOf resolventOf threeZeros clampedRatio inserted ascendingOf sortedFrom placed sqrtOf thirdAngleCosineOf thirdAngleSineOf minᶠ maxᶠ isNan swappedLimits constantsOf ofBits add sub mul div neg lt le eq absᶠ
 acc0-roots-down = refl
 
 module _ (c : Candidates) (xs : List Try) where
@@ -166,10 +166,10 @@ moving-finds : (c : Candidates) → added (added (added (added c first) second) 
 unfolding moving
 moving-finds c = each-on _ _ c (sym (none-acc0-acc1-up c)) (each-on _ _ _ (sym (none-acc0-acc1-down _)) (others-find _))
 
-answer-is : planOf turning ≡ selectedFrom (added (added (added (added (freshList (inputOf turning)) first) second) third) fourth)
-unfolding planOf finiteMove finiteStart finiteTarget finiteLimits wrongSign wrongDuration hasZeroLimit endsAtRest added stored freshList absᶠ neg lt eq ofBits
+answer-is : answerOf turning ≡ selectedFrom (added (added (added (added (freshList (inputOf turning)) first) second) third) fourth)
+unfolding answerOf finiteMove finiteStart finiteTarget finiteLimits wrongSign wrongDuration hasZeroLimit endsAtRest added stored freshList absᶠ neg lt eq ofBits
 answer-is = moving-answer turning refl refl (moving-finds _) (lit< tt)
 
-pub four-accepted : planOf turning ≡ refused 5
+pub four-accepted : answerOf turning ≡ refused 5
 unfolding selected ofFour removal alikeRemoval alike near total added stored freshList profileOf filled withBoundary emptyProfile sums jerkIf jerks rowAfter storedIf outerRow middleRow rowsOf directionOf swappedLimits absᶠ add sub mul div neg lt ofBits
 four-accepted = answer-is

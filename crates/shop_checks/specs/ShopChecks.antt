@@ -4,7 +4,7 @@ use mathlib.Core.Bool.{true, false}
 use mathlib.Core.List.{[], _∷_}
 use lib.Ieee.{Float, nan, binary64, ofBits, neg}
 use Rattle.doubles.specs.Constants.{0ᶠ, ½ᶠ, 1ᶠ, 2ᶠ, 3ᶠ, 4ᶠ, 8ᶠ}
-use Rattle.elementary.specs.Functions.{sqrtOf, cbrtOf, cosineOf, sineOf}
+use Rattle.elementary.specs.Functions.{sqrtOf, cbrtOf, thirdAngleCosineOf, thirdAngleSineOf}
 use Rattle.roots.specs.List.{reading}
 use Rattle.roots.specs.Resolvent.{sin120}
 use Rattle.roots.specs.Quartic.{quarticOf}
@@ -21,7 +21,7 @@ use Rattle.block.specs.Selection.{slot, selected}
 use Rattle.block.specs.Examples.{taking}
 use Rattle.block.specs.declared.Stretch.the-variants.{Between}
 use Rattle.block.specs.declared.Blocking.the-variants.{Blocked, Free}
-use Rattle.planner.specs.Plan.{planOf}
+use Rattle.planner.specs.Answers.{answerOf}
 use Rattle.planner.specs.declared.Move.{Move}
 use Rattle.moves.specs.Records.{recordOf}
 use Rattle.moves.specs.Lines.{lineOf}
@@ -106,20 +106,20 @@ pub record ShopChecks : Type 0 where
   -- ● pf -4 for 4: 6 s, DOWN, Vel
   pub line-2-down : replyOf lineOf 2 (recordOf (recordBytes move-2-down)) ≡ ascii "2 ok 4018000000000000 DOWN Vel 0\n"
   -- ● move 3: 2.5 blocked, 3 free, 4 blocked
-  pub move-3-at-2½ : blockingOf (planOf move-3 .block) 2½ᶠ ≡ Blocked
-  pub move-3-at-3 : blockingOf (planOf move-3 .block) 3ᶠ ≡ Free
-  pub move-3-at-4 : blockingOf (planOf move-3 .block) 4ᶠ ≡ Blocked
+  pub move-3-at-2½ : blockingOf (answerOf move-3 .block) 2½ᶠ ≡ Blocked
+  pub move-3-at-3 : blockingOf (answerOf move-3 .block) 3ᶠ ≡ Free
+  pub move-3-at-4 : blockingOf (answerOf move-3 .block) 4ᶠ ≡ Blocked
   -- ● √9 = 3, √-1 NaN
   pub sqrt-9 : sqrtOf 9ᶠ ≡ 3ᶠ
   pub sqrt-minus-1 : sqrtOf (neg 1ᶠ) ≡ nan
   -- ● cube root of -27: -3
   pub cbrt-minus-27 : cbrtOf (neg 27ᶠ) ≡ neg 3ᶠ
   -- ● t = 1: c 1, s 0
-  pub c-at-1 : cosineOf 1ᶠ ≡ 1ᶠ
-  pub s-at-1 : sineOf 1ᶠ ≡ 0ᶠ
+  pub c-at-1 : thirdAngleCosineOf 1ᶠ ≡ 1ᶠ
+  pub s-at-1 : thirdAngleSineOf 1ᶠ ≡ 0ᶠ
   -- ● t = -1: c 1/2, s SIN_120
-  pub c-at-minus-1 : cosineOf (neg 1ᶠ) ≡ ½ᶠ
-  pub s-at-minus-1 : sineOf (neg 1ᶠ) ≡ sin120
+  pub c-at-minus-1 : thirdAngleCosineOf (neg 1ᶠ) ≡ ½ᶠ
+  pub s-at-minus-1 : thirdAngleSineOf (neg 1ᶠ) ≡ sin120
   -- ● quartic -2, 1, 0, 0: roots 0, 1
   pub quartic-double-root : reading (quarticOf (neg 2ᶠ) 1ᶠ 0ᶠ 0ᶠ) ≡ 0ᶠ ∷ 1ᶠ ∷ []
   -- ● 0, 0, -8, 0: 0, 2

@@ -6,7 +6,7 @@ use lib.Ieee.{Float, nan, binary64, ofBits, neg}
 use Rattle.doubles.specs.Constants.{0ᶠ, ½ᶠ, 1ᶠ, 2ᶠ, 3ᶠ, 4ᶠ, 6ᶠ}
 use Rattle.block.specs.Blocks.{refused}
 use Rattle.block.specs.declared.Stretch.the-variants.{Between}
-use Rattle.planner.specs.Plan.{planOf}
+use Rattle.planner.specs.Answers.{answerOf}
 use Rattle.planner.specs.Promise.{Promise}
 use Rattle.planner.specs.declared.Move.{Move}
 use Rattle.profile_lines.specs.Text.{ascii}
@@ -29,12 +29,12 @@ passing =
 
 pub record PromiseApplies : Type 0 where
   -- move 2 is accepted, and so is a move with a stretch between two times: the promise has something to say
-  pub move-2-accepted : planOf move-2 .refusal ≡ 0
-  pub passing-accepted : planOf passing .refusal ≡ 0
-  pub passing-blocked : planOf passing .block .a .stretch ≡ Between 3ᶠ 6ᶠ
+  pub move-2-accepted : answerOf move-2 .refusal ≡ 0
+  pub passing-accepted : answerOf passing .refusal ≡ 0
+  pub passing-blocked : answerOf passing .block .a .stretch ≡ Between 3ᶠ 6ᶠ
   -- one plan for every move breaks it: that of move 1, the boundary with zero times, on move 2, and that of move 2 on move 1
-  pub staying-breaks-it : Promise move-2 (planOf move-1) → ⊥
-  pub leaving-breaks-it : Promise move-1 (planOf move-2) → ⊥
+  pub staying-breaks-it : Promise move-2 (answerOf move-1) → ⊥
+  pub leaving-breaks-it : Promise move-1 (answerOf move-2) → ⊥
 
 -- move 2 with another start, jerk and brake duration
 abbrev pub wrong : (p0 j brake : Float) → Move
@@ -60,11 +60,11 @@ turning =
 
 -- where several refusals apply, the first of document 01's table is given; each leaves the empty plan
 pub record RefusalsInOrder : Type 0 where
-  pub all-wrong : planOf (wrong nan (neg 1ᶠ) (neg 1ᶠ)) ≡ refused 1
-  pub limits-and-duration-wrong : planOf (wrong 0ᶠ (neg 1ᶠ) (neg 1ᶠ)) ≡ refused 2
-  pub duration-wrong : planOf (wrong 0ᶠ 0ᶠ (neg 1ᶠ)) ≡ refused 3
-  pub none-accepted : planOf move-4 ≡ refused 4
-  pub four-accepted : planOf turning ≡ refused 5
+  pub all-wrong : answerOf (wrong nan (neg 1ᶠ) (neg 1ᶠ)) ≡ refused 1
+  pub limits-and-duration-wrong : answerOf (wrong 0ᶠ (neg 1ᶠ) (neg 1ᶠ)) ≡ refused 2
+  pub duration-wrong : answerOf (wrong 0ᶠ 0ᶠ (neg 1ᶠ)) ≡ refused 3
+  pub none-accepted : answerOf move-4 ≡ refused 4
+  pub four-accepted : answerOf turning ≡ refused 5
 
 -- refusal 8, also of a record whose numbers are wrong: the input ends after 106 bytes or after one, the length is 104, the version 2. No byte is no record, and a byte
 -- behind a whole one isn't read

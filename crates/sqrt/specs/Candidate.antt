@@ -3,7 +3,7 @@ use Prim.Native.Nat.{ℕ, _-_, _/_}
 use lib.Ieee.{Float, binary64, ofBits}
 use Rattle.doubles.specs.Operators.{_+ᶠ_, _-ᶠ_, _*ᶠ_, _/ᶠ_}
 use Rattle.doubles.specs.Constants.{½ᶠ}
-use Rattle.estimates.specs.Estimates.{leadingDigits}
+use Rattle.doubles.specs.Splitting.{leadingDigits}
 
 -- near 1 / √x, by the pattern b of x
 unfoldable pub firstGuess : ℕ → Float

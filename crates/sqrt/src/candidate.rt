@@ -28,6 +28,6 @@ pub fn candidate(x: f64, b: u64) -> f64
 {
     let h = x * 0.5;
     let y = newton(1.5000006, h, newton(1.50087, h, first_guess(b)));
-    let a = estimates::leading_digits(x * y, 134217729.0);
+    let a = doubles::leading_digits(x * y, 134217729.0);
     a + (x - a * a) / (a + x * newton(1.5, h, y))
 }

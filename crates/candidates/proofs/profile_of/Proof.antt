@@ -7,7 +7,7 @@ use Rattle.candidates.proofs.profile_of.Tie as tie
 
 returns : tie.Need-returns
 unfolding profileOf withBoundary
-returns c = rw (c .made .ensures, c .before .with-boundary .ensures, c .before .before .empty .ensures)
+returns c = rw (c .filled .ensures, c .before .with-boundary .ensures, c .before .before .empty .ensures)
 
 pub profile-of-spec : {M : Type 1} → statement M
 profile-of-spec = tie.close (tie.spec (λ c κs. search needs) (λ c κs. search needs) (λ c κs. search needs) returns)

@@ -12,8 +12,8 @@ returns c =
     let p = rw (
       c .before .before .before .before .before .before .before .sqrt .ensures,
       c .before .before .before .before .before .before .before .before .before .cbrt .ensures,
-      c .before .before .before .before .before .before .before .before .before .before .cosine-pair .ensures .0,
-      c .before .before .before .before .before .before .before .before .before .before .cosine-pair .ensures .1,
+      c .before .before .before .before .before .before .before .before .before .before .third-angle-pair .ensures .0,
+      c .before .before .before .before .before .before .before .before .before .before .third-angle-pair .ensures .1,
       c .before .before .before .before .before .before .before .before .before .before .before .double-at .ensures,
     ) at
     (then (then

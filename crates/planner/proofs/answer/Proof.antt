@@ -1,25 +1,25 @@
 -- `planner::answer` meets its contract. Assumes nothing.
 use borrow.Author.Needs.{needs}
-use Rattle.planner.specs.Plan.{planOf}
+use Rattle.planner.specs.Answers.{answerOf}
 use Rattle.planner.proofs.answer.Statement.{statement}
 use Rattle.planner.proofs.answer.Tie as tie
 
 returns : tie.Need-returns
-unfolding planOf
+unfolding answerOf
 returns c = rw (← c .before .before .finite-move .ensures, c .before .if1 .taken) (c .refused .ensures)
 
 returns-2 : tie.Need-returns-2
-unfolding planOf
+unfolding answerOf
 returns-2 c = rw (← c .before .before .before .before .finite-move .ensures, c .before .before .before .if1 .left, ← c .before .before .wrong-sign .ensures, c .before .if2 .taken) (c .refused2 .ensures)
 
 returns-3 : tie.Need-returns-3
-unfolding planOf
+unfolding answerOf
 returns-3 c =
     rw (← c .before .before .before .before .before .before .finite-move .ensures, c .before .before .before .before .before .if1 .left, ← c .before .before .before .before .wrong-sign .ensures, c .before .before .before .if2 .left, ← c .before .before .wrong-duration .ensures, c .before .if3 .taken)
     (c .refused3 .ensures)
 
 returns-4 : tie.Need-returns-4
-unfolding planOf
+unfolding answerOf
 returns-4 c =
     rw (← c .before .before .before .before .before .before .before .finite-move .ensures, c .before .before .before .before .before .before .if1 .left, ← c .before .before .before .before .before .wrong-sign .ensures, c .before .before .before .before .if2 .left, ← c .before .before .before .wrong-duration .ensures, c .before .before .if3 .left)
     (rw (c .before .input-of .ensures) at (c .get-profile .ensures))

@@ -1,6 +1,6 @@
 -- `planner::finite_limits` meets its contract. Assumes nothing.
 use borrow.Author.Needs.{needs}
-use Rattle.planner.specs.Plan.{finiteLimits}
+use Rattle.planner.specs.Answers.{finiteLimits}
 use Rattle.planner.proofs.finite_limits.Statement.{statement}
 use Rattle.planner.proofs.finite_limits.Tie as tie
 

@@ -1,6 +1,6 @@
 -- `planner::finite_move` meets its contract. Assumes nothing.
 use borrow.Author.Needs.{needs}
-use Rattle.planner.specs.Plan.{finiteMove}
+use Rattle.planner.specs.Answers.{finiteMove}
 use Rattle.planner.proofs.finite_move.Statement.{statement}
 use Rattle.planner.proofs.finite_move.Tie as tie
 

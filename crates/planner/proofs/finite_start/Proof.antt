@@ -1,6 +1,6 @@
 -- `planner::finite_start` meets its contract. Assumes nothing.
 use borrow.Author.Needs.{needs}
-use Rattle.planner.specs.Plan.{finiteStart}
+use Rattle.planner.specs.Answers.{finiteStart}
 use Rattle.planner.proofs.finite_start.Statement.{statement}
 use Rattle.planner.proofs.finite_start.Tie as tie
 

@@ -1,6 +1,6 @@
 -- `planner::finite_target` meets its contract. Assumes nothing.
 use borrow.Author.Needs.{needs}
-use Rattle.planner.specs.Plan.{finiteTarget}
+use Rattle.planner.specs.Answers.{finiteTarget}
 use Rattle.planner.proofs.finite_target.Statement.{statement}
 use Rattle.planner.proofs.finite_target.Tie as tie
 

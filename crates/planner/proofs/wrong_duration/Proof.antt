@@ -1,6 +1,6 @@
 -- `planner::wrong_duration` meets its contract. Assumes nothing.
 use mathlib.Core.Path.{refl}
-use Rattle.planner.specs.Plan.{wrongDuration}
+use Rattle.planner.specs.Answers.{wrongDuration}
 use Rattle.planner.proofs.wrong_duration.Statement.{statement}
 use Rattle.planner.proofs.wrong_duration.Tie as tie
 

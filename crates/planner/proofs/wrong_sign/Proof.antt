@@ -1,6 +1,6 @@
 -- `planner::wrong_sign` meets its contract. Assumes nothing.
 use mathlib.Core.Path.{refl}
-use Rattle.planner.specs.Plan.{wrongSign}
+use Rattle.planner.specs.Answers.{wrongSign}
 use Rattle.planner.proofs.wrong_sign.Statement.{statement}
 use Rattle.planner.proofs.wrong_sign.Tie as tie
 

@@ -6,7 +6,7 @@ use Rattle.profile_check.proofs.check.Tie as tie
 
 returns : tie.Need-returns
 unfolding checked
-returns c = rw (← c .before .before .before .before .start .ensures, ← c .before .before .before .target .ensures, ← c .before .before .accepts .ensures, c .before .if1 .taken, ← c .made .ensures)
+returns c = rw (← c .before .before .before .before .start .ensures, ← c .before .before .before .target .ensures, ← c .before .before .accepts .ensures, c .before .if1 .taken, ← c .filled .ensures)
 
 returns-2 : tie.Need-returns-2
 unfolding checked

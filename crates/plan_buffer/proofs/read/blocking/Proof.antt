@@ -1,6 +1,6 @@
 -- `plan_buffer::read::blocking` meets its contract. Assumes nothing.
 use borrow.Author.Tests.{not-true, not-false}
-use Rattle.plan_buffer.specs.Answers.{isBlockedFrom, blockingFrom}
+use Rattle.plan_buffer.specs.Buffers.{isBlockedFrom, blockingFrom}
 use borrow.Author.Needs.{needs}
 use Rattle.plan_buffer.proofs.read.blocking.Statement.{statement}
 use Rattle.plan_buffer.proofs.read.blocking.Tie as tie

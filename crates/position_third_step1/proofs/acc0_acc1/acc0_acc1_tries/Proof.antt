@@ -8,7 +8,7 @@ use Rattle.profile.specs.declared.ReachedLimits.the-variants.{Acc0Acc1}
 use Rattle.phase_times.specs.TimeAcc0Acc1.{timesAcc0Acc1Solution2}
 use Rattle.candidates.specs.Try.{Try}
 use Rattle.candidates.specs.List.{added}
-use Rattle.position_third_step1.specs.Plan.{tryOf}
+use Rattle.position_third_step1.specs.CheckTree.{tryOf}
 use Rattle.position_third_step1.specs.TimeAcc0Acc1.{acc0Acc1Tries, acc0Acc1Solutions, withPassing}
 use Rattle.position_third_step1.proofs.TryLaws.{Answer, not-made, made, two-kept, ended}
 use Rattle.position_third_step1.proofs.acc0_acc1.acc0_acc1_tries.Statement.{statement}

@@ -7,7 +7,7 @@ use native.Mathlib.Omega.{arith}
 use borrow.Author.Needs.{needs}
 use lib.ListN.{drop}
 use Rattle.roots.specs.List.{rootsOf}
-use Rattle.position_third_step1.specs.Plan.{found, tries}
+use Rattle.position_third_step1.specs.CheckTree.{found, tries}
 use Rattle.position_third_step1.specs.TimeAllNoneAcc0Acc1.{triesFor}
 use Rattle.position_third_step1.proofs.TryLaws.{left-out, no, yes, ended}
 use Rattle.position_third_step1.proofs.RootLaws.{no-root, triesFrom, all-tried, entered, left, root-goes-on, root-stops, root-try-is}

@@ -1,6 +1,6 @@
 -- `position_third_step1::single_step::time_all_single_step` meets its contract. Assumes nothing.
 use mathlib.Core.Path.{refl, _∙_}
-use Rattle.position_third_step1.specs.Plan.{onlyIf}
+use Rattle.position_third_step1.specs.CheckTree.{onlyIf}
 use Rattle.position_third_step1.specs.TimeAllSingleStep.{singleStepTries}
 use Rattle.position_third_step1.proofs.TryLaws.{ended}
 use borrow.Author.Needs.{needs}

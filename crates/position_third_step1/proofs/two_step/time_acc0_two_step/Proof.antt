@@ -5,7 +5,7 @@ use mathlib.Core.Bool.{true}
 use borrow.Author.Needs.{needs}
 use lib.ListN.{drop}
 use Rattle.candidates.specs.declared.Candidates.{Candidates}
-use Rattle.position_third_step1.specs.Plan.{found, tries, tryOf}
+use Rattle.position_third_step1.specs.CheckTree.{found, tries, tryOf}
 use Rattle.position_third_step1.specs.TwoStep.{acc0TwoStepTries}
 use Rattle.position_third_step1.proofs.TryLaws.{refused, stopped, ended}
 use Rattle.position_third_step1.proofs.two_step.time_acc0_two_step.Statement.{statement}

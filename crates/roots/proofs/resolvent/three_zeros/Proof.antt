@@ -6,7 +6,7 @@ use Rattle.roots.proofs.resolvent.three_zeros.Tie as tie
 
 returns : tie.Need-returns
 unfolding threeZeros
-returns c = rw (← c .before .before .before .before .sqrt .ensures, ← c .before .before .before .clamped-ratio .ensures, ← c .before .before .cosine-pair .ensures .0, ← c .before .before .cosine-pair .ensures .1)
+returns c = rw (← c .before .before .before .before .sqrt .ensures, ← c .before .before .before .clamped-ratio .ensures, ← c .before .before .third-angle-pair .ensures .0, ← c .before .before .third-angle-pair .ensures .1)
 
 pub three-zeros-spec : {M : Type 1} → statement M
 three-zeros-spec = tie.close (tie.spec (λ c κs. search needs) (λ c κs. search needs) (λ c κs. search needs) returns)

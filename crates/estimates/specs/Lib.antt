@@ -1,2 +1,0 @@
--- The definitions that the contracts of `estimates` cite.
-pub mod Estimates

@@ -1,0 +1,28 @@
+-- `third_angle_cosine::nearest` meets its contract. Assumes nothing.
+use mathlib.Core.Path.{sym, _∙_, subst}
+use native.Mathlib.Omega.{arith}
+use lib.Dec.{T}
+use lib.Ieee.{binary64, fits}
+use lib.Ieee.Bits.{ofBits-toBits}
+use Rattle.bits.proofs.Patterns.{not-nan-by-eq, not-nan-bits}
+use borrow.Author.Needs.{needs}
+use Rattle.third_angle_cosine.proofs.nearest.Statement.{statement}
+use Rattle.third_angle_cosine.proofs.nearest.Tie as tie
+
+held : (c : tie.Start) → T (fits binary64 (c .args .candidate))
+held c = subst T (sym (c .good .1 .1 .0 .1)) tt
+
+float-to-bits-is-cosine : tie.Need-float-to-bits-is-cosine
+float-to-bits-is-cosine c = not-nan-by-eq (c .before .args .candidate) (c .if1 .taken)
+
+returns : tie.Need-returns
+returns c = sym (ofBits-toBits binary64 (c .before .before .before .args .candidate) (held (c .before .before .before))) ∙ c .before .is-cosine .ensures .yes (c .if2 .taken)
+
+float-from-bits-result : tie.Need-float-from-bits-result
+float-from-bits-result c = not-nan-bits _ (omega (arith, c .cosine-pattern .ensures .0))
+
+returns-2 : tie.Need-returns-2
+returns-2 c = c .cosine-pattern .ensures .1
+
+pub nearest-spec : {M : Type 1} → statement M
+nearest-spec = tie.close (tie.spec float-to-bits-is-cosine (λ c κs. search needs) returns (λ c κs. search needs) float-from-bits-result returns-2)
