@@ -3,3 +3,4 @@ pub mod Tolerances
 pub mod Names
 pub mod Limits
 pub mod Boundary
+pub mod With
