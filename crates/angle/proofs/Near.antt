@@ -34,21 +34,34 @@ module _ (s : Bool) (X : ℕ) (h : X ≤ 2 ^ 1019) where
   part = mul-le-mul-right (2 ^ 1075) (mul-le-mul-right (2 ^ 1075) (mul-le-mul-right (2 ^ 1075) h))
 
   abbrev sides : ℕ → Ordering
-  sides n = compare (3 * n * 2 ^ 1075 * 2 ^ 1075 * 2 ^ 1074 + cond s 0 (X * 2 ^ 1075 * 2 ^ 1075 * 2 ^ 1075)) (4 * n * n * n * 2 ^ 1074 + cond s (X * 2 ^ 1075 * 2 ^ 1075 * 2 ^ 1075) 0)
+  sides n = compare (3 * n * 2 ^ 1075 * 2 ^ 1075 * 2 ^ 1074 + cond s 0 (X * 2 ^ 1075 * 2 ^ 1075 * 2 ^ 1075))
+      (4 * n * n * n * 2 ^ 1074 + cond s (X * 2 ^ 1075 * 2 ^ 1075 * 2 ^ 1075) 0)
 
-  greater : (n : ℕ) → ltb (2 * n) (2 ^ 1075) ≡ false → 4 * n * n * n * 2 ^ 1074 + 2 ^ 1019 * 2 ^ 1075 * 2 ^ 1075 * 2 ^ 1075 < 3 * n * 2 ^ 1075 * 2 ^ 1075 * 2 ^ 1074 → thirdAngleCosineReal (2 ^ 1075) s X (2 ^ 1074) n ≡ Ordering·gt
-  greater n g l = cond-false (ltb (2 * n) (2 ^ 1075)) Ordering·gt (sides n) g ∙ gt-both (3 * n * 2 ^ 1075 * 2 ^ 1075 * 2 ^ 1074) (4 * n * n * n * 2 ^ 1074) (2 ^ 1019 * 2 ^ 1075 * 2 ^ 1075 * 2 ^ 1075) (X * 2 ^ 1075 * 2 ^ 1075 * 2 ^ 1075) part l s
+  greater : (n : ℕ) → ltb (2 * n) (2 ^ 1075) ≡ false
+      → 4 * n * n * n * 2 ^ 1074 + 2 ^ 1019 * 2 ^ 1075 * 2 ^ 1075 * 2 ^ 1075 < 3 * n * 2 ^ 1075 * 2 ^ 1075 * 2 ^ 1074
+      → thirdAngleCosineReal (2 ^ 1075) s X (2 ^ 1074) n ≡ Ordering·gt
+  greater n g l =
+      cond-false (ltb (2 * n) (2 ^ 1075)) Ordering·gt (sides n) g
+      ∙ gt-both (3 * n * 2 ^ 1075 * 2 ^ 1075 * 2 ^ 1074) (4 * n * n * n * 2 ^ 1074)
+      (2 ^ 1019 * 2 ^ 1075 * 2 ^ 1075 * 2 ^ 1075) (X * 2 ^ 1075 * 2 ^ 1075 * 2 ^ 1075) part l s
 
-  less : (n : ℕ) → ltb (2 * n) (2 ^ 1075) ≡ false → 3 * n * 2 ^ 1075 * 2 ^ 1075 * 2 ^ 1074 + 2 ^ 1019 * 2 ^ 1075 * 2 ^ 1075 * 2 ^ 1075 < 4 * n * n * n * 2 ^ 1074 → thirdAngleCosineReal (2 ^ 1075) s X (2 ^ 1074) n ≡ Ordering·lt
-  less n g l = cond-false (ltb (2 * n) (2 ^ 1075)) Ordering·gt (sides n) g ∙ lt-both (3 * n * 2 ^ 1075 * 2 ^ 1075 * 2 ^ 1074) (4 * n * n * n * 2 ^ 1074) (2 ^ 1019 * 2 ^ 1075 * 2 ^ 1075 * 2 ^ 1075) (X * 2 ^ 1075 * 2 ^ 1075 * 2 ^ 1075) part l s
+  less : (n : ℕ) → ltb (2 * n) (2 ^ 1075) ≡ false
+      → 3 * n * 2 ^ 1075 * 2 ^ 1075 * 2 ^ 1074 + 2 ^ 1019 * 2 ^ 1075 * 2 ^ 1075 * 2 ^ 1075 < 4 * n * n * n * 2 ^ 1074
+      → thirdAngleCosineReal (2 ^ 1075) s X (2 ^ 1074) n ≡ Ordering·lt
+  less n g l =
+      cond-false (ltb (2 * n) (2 ^ 1075)) Ordering·gt (sides n) g
+      ∙ lt-both (3 * n * 2 ^ 1075 * 2 ^ 1075 * 2 ^ 1074) (4 * n * n * n * 2 ^ 1074)
+      (2 ^ 1019 * 2 ^ 1075 * 2 ^ 1075 * 2 ^ 1075) (X * 2 ^ 1075 * 2 ^ 1075 * 2 ^ 1075) part l s
 
   root-three : units binary64 false 0x1b_b67a_e858_4caa 1021 ≡ ofBits binary64 0x3feb_b67a_e858_4caa
   unfolding units ofBits
   root-three = refl
 
-  pub cosine-near : nearestTo binary64 false (thirdAngleCosineReal (2 ^ 1075) s X (2 ^ 1074)) 1077 ≡ ofBits binary64 0x3feb_b67a_e858_4caa
+  pub cosine-near : nearestTo binary64 false (thirdAngleCosineReal (2 ^ 1075) s X (2 ^ 1074)) 1077
+      ≡ ofBits binary64 0x3feb_b67a_e858_4caa
   cosine-near =
-      nearest-of-midpoints binary64 false (thirdAngleCosineReal (2 ^ 1075) s X (2 ^ 1074)) 1077 (cosine-double-bounded s X (2 ^ 1074) (pow-pos 1074) at-most-one) 0x1b_b67a_e858_4ca9 1021
+      nearest-of-midpoints binary64 false (thirdAngleCosineReal (2 ^ 1075) s X (2 ^ 1074)) 1077
+      (cosine-double-bounded s X (2 ^ 1074) (pow-pos 1074) at-most-one) 0x1b_b67a_e858_4ca9 1021
       (subst (λ (o : Ordering). T (isGe o)) (sym (greater (2 ^ 52 * 2 ^ 1022) refl (lit< tt))) tt)
       (less (2 ^ 53 * 2 ^ 1022) refl (lit< tt))
       (greater ((2 * 0x1b_b67a_e858_4ca9 + 1) * 2 ^ 1021) refl (lit< tt))
@@ -61,26 +74,36 @@ module _ (s : Bool) (X : ℕ) (h : X ≤ 2 ^ 1019) where
   L n = (2 ^ 2150 * 2 ^ 2150 * 2 ^ 2150 + 24 * (n * n) * (n * n) * 2 ^ 2150) * (2 ^ 1074 * 2 ^ 1074)
 
   abbrev R : ℕ → ℕ → ℕ
-  R x n = (16 * (n * n) * (n * n) * (n * n) + 9 * (n * n) * 2 ^ 2150 * 2 ^ 2150) * (2 ^ 1074 * 2 ^ 1074) + x * x * (2 ^ 2150 * 2 ^ 2150 * 2 ^ 2150)
+  R x n = (16 * (n * n) * (n * n) * (n * n) + 9 * (n * n) * 2 ^ 2150 * 2 ^ 2150) * (2 ^ 1074 * 2 ^ 1074)
+      + x * x * (2 ^ 2150 * 2 ^ 2150 * 2 ^ 2150)
 
   R-most : (n : ℕ) → R X n ≤ R (2 ^ 1019) n
-  R-most n = add-le-add (le-refl ((16 * (n * n) * (n * n) * (n * n) + 9 * (n * n) * 2 ^ 2150 * 2 ^ 2150) * (2 ^ 1074 * 2 ^ 1074))) (mul-le-mul-right (2 ^ 2150 * 2 ^ 2150 * 2 ^ 2150) (square-le X (2 ^ 1019) h))
+  R-most n = add-le-add
+      (le-refl ((16 * (n * n) * (n * n) * (n * n) + 9 * (n * n) * 2 ^ 2150 * 2 ^ 2150) * (2 ^ 1074 * 2 ^ 1074)))
+      (mul-le-mul-right (2 ^ 2150 * 2 ^ 2150 * 2 ^ 2150) (square-le X (2 ^ 1019) h))
 
   -- below 1/2, and above it
-  under-half : (n : ℕ) → ltb (2 * n) (2 ^ 1075) ≡ true → ltb (2 ^ 1075) (2 * n) ≡ false → R (2 ^ 1019) n < L n → thirdAngleSineReal (2 ^ 1075) s X (2 ^ 1074) n ≡ Ordering·gt
+  under-half : (n : ℕ) → ltb (2 * n) (2 ^ 1075) ≡ true → ltb (2 ^ 1075) (2 * n) ≡ false → R (2 ^ 1019) n < L n
+      → thirdAngleSineReal (2 ^ 1075) s X (2 ^ 1074) n ≡ Ordering·gt
   under-half n a b l = go s
     where
       go : (s : Bool) → thirdAngleSineReal (2 ^ 1075) s X (2 ^ 1074) n ≡ Ordering·gt
-      go false = cond-false (ltb (2 ^ 1075) (2 * n)) Ordering·lt (compare (L n) (R X n)) b ∙ said Ordering·gt (L n) (R X n) (lt-of-le-of-lt (R-most n) l)
-      go true = ap (λ (x : Bool). cond x Ordering·gt (cond (ltb (3 * (2 ^ 1075 * 2 ^ 1075)) (4 * (n * n))) Ordering·lt (opposite (compare (L n) (R X n))))) a
+      go false = cond-false (ltb (2 ^ 1075) (2 * n)) Ordering·lt (compare (L n) (R X n)) b
+          ∙ said Ordering·gt (L n) (R X n) (lt-of-le-of-lt (R-most n) l)
+      go true =
+          ap (λ (x : Bool). cond x Ordering·gt
+          (cond (ltb (3 * (2 ^ 1075 * 2 ^ 1075)) (4 * (n * n))) Ordering·lt (opposite (compare (L n) (R X n))))) a
 
-  over-half : (n : ℕ) → ltb (2 * n) (2 ^ 1075) ≡ false → ltb (2 ^ 1075) (2 * n) ≡ true → ltb (3 * (2 ^ 1075 * 2 ^ 1075)) (4 * (n * n)) ≡ false → R (2 ^ 1019) n < L n → thirdAngleSineReal (2 ^ 1075) s X (2 ^ 1074) n ≡ Ordering·lt
+  over-half : (n : ℕ) → ltb (2 * n) (2 ^ 1075) ≡ false → ltb (2 ^ 1075) (2 * n) ≡ true
+      → ltb (3 * (2 ^ 1075 * 2 ^ 1075)) (4 * (n * n)) ≡ false → R (2 ^ 1019) n < L n
+      → thirdAngleSineReal (2 ^ 1075) s X (2 ^ 1074) n ≡ Ordering·lt
   over-half n a b c l = go s
     where
       go : (s : Bool) → thirdAngleSineReal (2 ^ 1075) s X (2 ^ 1074) n ≡ Ordering·lt
       go false = ap (λ (x : Bool). cond x Ordering·lt (compare (L n) (R X n))) b
       go true =
-          cond-false (ltb (2 * n) (2 ^ 1075)) Ordering·gt (cond (ltb (3 * (2 ^ 1075 * 2 ^ 1075)) (4 * (n * n))) Ordering·lt (opposite (compare (L n) (R X n)))) a
+          cond-false (ltb (2 * n) (2 ^ 1075)) Ordering·gt
+          (cond (ltb (3 * (2 ^ 1075 * 2 ^ 1075)) (4 * (n * n))) Ordering·lt (opposite (compare (L n) (R X n)))) a
           ∙ cond-false (ltb (3 * (2 ^ 1075 * 2 ^ 1075)) (4 * (n * n))) Ordering·lt (opposite (compare (L n) (R X n))) c
           ∙ ap opposite (said Ordering·gt (L n) (R X n) (lt-of-le-of-lt (R-most n) l))
 
@@ -92,7 +115,8 @@ module _ (s : Bool) (X : ℕ) (h : X ≤ 2 ^ 1019) where
   unfolding units ofBits
   one-half-too = refl
 
-  pub sine-near : nearestTo binary64 false (thirdAngleSineReal (2 ^ 1075) s X (2 ^ 1074)) 1077 ≡ ofBits binary64 0x3fe0_0000_0000_0000
+  pub sine-near : nearestTo binary64 false (thirdAngleSineReal (2 ^ 1075) s X (2 ^ 1074)) 1077
+      ≡ ofBits binary64 0x3fe0_0000_0000_0000
   sine-near =
       let real = thirdAngleSineReal (2 ^ 1075) s X (2 ^ 1074) in
       let b = sine-double-bounded s X (2 ^ 1074) (pow-pos 1074) at-most-one in
@@ -105,7 +129,8 @@ module _ (s : Bool) (X : ℕ) (h : X ≤ 2 ^ 1019) where
               lower = l;
               upper = over-half (suc (2 ^ 52) * 2 ^ 1022) refl refl refl (lit< tt);
             })
-            ∙ ap (λ (o : Ordering). units binary64 false (nearest (2 ^ 52) o) 1021) (over-half ((2 * 2 ^ 52 + 1) * 2 ^ 1021) refl refl refl (lit< tt))
+            ∙ ap (λ (o : Ordering). units binary64 false (nearest (2 ^ 52) o) 1021)
+            (over-half ((2 * 2 ^ 52 + 1) * 2 ^ 1021) refl refl refl (lit< tt))
             ∙ one-half
         | inr g ↦
             nearest-of-midpoints binary64 false real 1077 b (2 ^ 53 - 1) 1020

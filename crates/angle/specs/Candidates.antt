@@ -19,15 +19,23 @@ newtonStep h y = y *ᶠ (ofBits binary64 0x3ff8_0000_0000_0000 -ᶠ h *ᶠ y *�
 
 unfoldable pub inverseRoot : Float → Float
 unfolding firstGuess newtonStep
-inverseRoot x = cond (x !=ᶠ x) x (newtonStep (x *ᶠ ½ᶠ) (newtonStep (x *ᶠ ½ᶠ) (newtonStep (x *ᶠ ½ᶠ) (firstGuess (bitAnd (toBits binary64 x) 0x7fff_ffff_ffff_ffff)))))
+inverseRoot x =
+    cond (x !=ᶠ x) x
+    (newtonStep (x *ᶠ ½ᶠ)
+    (newtonStep (x *ᶠ ½ᶠ) (newtonStep (x *ᶠ ½ᶠ) (firstGuess (bitAnd (toBits binary64 x) 0x7fff_ffff_ffff_ffff)))))
 
 -- ---- v = u + d
 
 -- a polynomial of degree 7
 unfoldable pub polynomialOf : Float → Float
 polynomialOf z =
-    z *ᶠ (ofBits binary64 0x3fef_ffff_7bd9_4534 -ᶠ z *ᶠ (ofBits binary64 0x3fc5_54a4_aaa1_0bee -ᶠ z *ᶠ (ofBits binary64 0x3fb1_b330_b3b7_f269 -ᶠ z *ᶠ (ofBits binary64 0x3fa2_15e9_b474_eb52
-    -ᶠ z *ᶠ (ofBits binary64 0x3f91_caad_0cbb_3a5c -ᶠ z *ᶠ (ofBits binary64 0x3f79_b28c_316c_285d -ᶠ z *ᶠ ofBits binary64 0x3f52_3d20_9ba0_5e4f))))))
+    z *ᶠ (ofBits binary64 0x3fef_ffff_7bd9_4534
+    -ᶠ z *ᶠ (ofBits binary64 0x3fc5_54a4_aaa1_0bee
+    -ᶠ z *ᶠ (ofBits binary64 0x3fb1_b330_b3b7_f269
+    -ᶠ z *ᶠ (ofBits binary64 0x3fa2_15e9_b474_eb52
+    -ᶠ z *ᶠ (ofBits binary64 0x3f91_caad_0cbb_3a5c
+    -ᶠ z *ᶠ (ofBits binary64 0x3f79_b28c_316c_285d
+    -ᶠ z *ᶠ ofBits binary64 0x3f52_3d20_9ba0_5e4f))))))
 
 unfoldable pub excessOf : Float → Float → Float → Float → Float → Float
 excessOf t w u square rest = 2ᶠ *ᶠ w -ᶠ 3ᶠ *ᶠ square -ᶠ u *ᶠ square -ᶠ (3ᶠ +ᶠ u) *ᶠ rest +ᶠ 2ᶠ *ᶠ (t -ᶠ (w -ᶠ 1ᶠ))
@@ -38,7 +46,9 @@ correctionOf u f = let slope = u *ᶠ (3ᶠ *ᶠ u +ᶠ 6ᶠ) in f *ᶠ slope /�
 -- u: 2/3 of 1 + t is 3z² / 3 for the polynomial, and 2 ^ 30 + 1 splits off 23 digits
 unfoldable pub leadOf : Float → Float
 unfolding polynomialOf inverseRoot
-leadOf t = let x = (1ᶠ +ᶠ t) *ᶠ ofBits binary64 0x3fe5_5555_5555_5555 in leadingDigits (polynomialOf (x *ᶠ inverseRoot x)) (ofBits binary64 0x41d0_0000_0040_0000)
+leadOf t =
+    let x = (1ᶠ +ᶠ t) *ᶠ ofBits binary64 0x3fe5_5555_5555_5555 in
+    leadingDigits (polynomialOf (x *ᶠ inverseRoot x)) (ofBits binary64 0x41d0_0000_0040_0000)
 
 -- 2 ^ 27 + 1 splits off 26 digits
 unfoldable pub splitSquare : Float → Float
@@ -75,12 +85,19 @@ smallSine t =
     let w = 1ᶠ -ᶠ t in
     let x = 2ᶠ *ᶠ w in
     let y = inverseRoot x in
-    let s = leadingDigits (x *ᶠ y *ᶠ ofBits binary64 0x3fd5_5555_5555_5555 *ᶠ (1ᶠ +ᶠ w *ᶠ (ofBits binary64 0x3fa7_b425_ed09_7b42 +ᶠ w *ᶠ ofBits binary64 0x3f84_4673_81d7_dbf5))) (ofBits binary64 0x41d0_0000_0040_0000) in
+    let s = leadingDigits
+    (x *ᶠ y *ᶠ ofBits binary64 0x3fd5_5555_5555_5555
+    *ᶠ (1ᶠ +ᶠ w *ᶠ (ofBits binary64 0x3fa7_b425_ed09_7b42 +ᶠ w *ᶠ ofBits binary64 0x3f84_4673_81d7_dbf5)))
+    (ofBits binary64 0x41d0_0000_0040_0000) in
     let q = s *ᶠ s in
-    let f = x -ᶠ ofBits binary64 0x4022_0000_0000_0000 *ᶠ q +ᶠ (24ᶠ *ᶠ q *ᶠ q -ᶠ w *ᶠ w -ᶠ ofBits binary64 0x4030_0000_0000_0000 *ᶠ q *ᶠ q *ᶠ q) in
-    s +ᶠ f /ᶠ (2ᶠ *ᶠ s *ᶠ (ofBits binary64 0x4022_0000_0000_0000 -ᶠ ofBits binary64 0x4048_0000_0000_0000 *ᶠ q *ᶠ (1ᶠ -ᶠ q)) +ᶠ f *ᶠ y *ᶠ (ofBits binary64 0x3ff8_0000_0000_0000 -ᶠ 24ᶠ *ᶠ q))
+    let f = x -ᶠ ofBits binary64 0x4022_0000_0000_0000 *ᶠ q
+    +ᶠ (24ᶠ *ᶠ q *ᶠ q -ᶠ w *ᶠ w -ᶠ ofBits binary64 0x4030_0000_0000_0000 *ᶠ q *ᶠ q *ᶠ q) in
+    s +ᶠ f /ᶠ (2ᶠ *ᶠ s
+    *ᶠ (ofBits binary64 0x4022_0000_0000_0000 -ᶠ ofBits binary64 0x4048_0000_0000_0000 *ᶠ q *ᶠ (1ᶠ -ᶠ q))
+    +ᶠ f *ᶠ y *ᶠ (ofBits binary64 0x3ff8_0000_0000_0000 -ᶠ 24ᶠ *ᶠ q))
 
 -- 1 - 2 ^ -7
 unfoldable pub sineCandidate : Float → Float → Float → Float → Float → Float
 unfolding smallSine largeSine
-sineCandidate t u d square rest = cond (ofBits binary64 0x3fef_c000_0000_0000 <ᶠ t) (smallSine t) (largeSine u d square rest)
+sineCandidate t u d square rest =
+    cond (ofBits binary64 0x3fef_c000_0000_0000 <ᶠ t) (smallSine t) (largeSine u d square rest)

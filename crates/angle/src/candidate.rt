@@ -3,7 +3,9 @@
 // one sine in a hundred thousand is not certified, and fewer cosines.)
 ghost use mathlib.Core.Path.{_≡_};
 ghost use Prim.Native.Nat.{_<_, _^_};
-ghost use Rattle.angle.specs.Candidates.{firstGuess, newtonStep, inverseRoot, polynomialOf, excessOf, correctionOf, Estimated, cosineCandidate, nearRoot, largeSine, smallSine, sineCandidate};
+ghost use Rattle.angle.specs.Candidates.{firstGuess, newtonStep, inverseRoot, polynomialOf, excessOf};
+ghost use Rattle.angle.specs.Candidates.{correctionOf, Estimated, cosineCandidate, nearRoot, largeSine};
+ghost use Rattle.angle.specs.Candidates.{smallSine, sineCandidate};
 use doubles::leading_digits;
 
 // 1 / √x to within 3.5 % for the pattern b of a normal double x: half the exponent, and a straight line for the significand.

@@ -1,19 +1,17 @@
--- What `compare` says of two whole numbers, as a proposition. Assumes nothing.
+-- `compare` says of two whole numbers what is so. Assumes nothing.
 use mathlib.Core.Path.{_≡_, subst}
 use Prim.Native.Nat.{ℕ, _≤_, _<_, compare, Ordering, Ordering·lt, Ordering·eq, Ordering·gt}
 use mathlib.Core.Bool.{not}
 use lib.Dec.{T, isLe, isEq, eqb, leb→le, nleb→lt, eqb→eq, eqb-refl}
 use lib.Arith.{lt-of-le-ne}
-
-abbrev pub Says : Ordering → ℕ → ℕ → Type 0
-Says Ordering·lt a b = a < b
-Says Ordering·eq a b = a ≡ b
-Says Ordering·gt a b = b < a
+use Rattle.bits.specs.Comparison.{Says}
 
 pub says : (a b : ℕ) → Says (compare a b) a b
-says a b = go (compare a b) (leb→le a b) (nleb→lt a b) (eqb→eq a b) (λ (e : a ≡ b). subst (λ (x : ℕ). T (eqb a x)) e (eqb-refl a))
+says a b = go (compare a b) (leb→le a b) (nleb→lt a b) (eqb→eq a b)
+    (λ (e : a ≡ b). subst (λ (x : ℕ). T (eqb a x)) e (eqb-refl a))
   where
-    go : (o : Ordering) → (T (isLe o) → a ≤ b) → (T (not (isLe o)) → b < a) → (T (isEq o) → a ≡ b) → (a ≡ b → T (isEq o)) → Says o a b
+    go : (o : Ordering) → (T (isLe o) → a ≤ b) → (T (not (isLe o)) → b < a) → (T (isEq o) → a ≡ b)
+        → (a ≡ b → T (isEq o)) → Says o a b
     go Ordering·lt h k e n = lt-of-le-ne (h tt) n
     go Ordering·eq h k e n = e tt
     go Ordering·gt h k e n = k tt

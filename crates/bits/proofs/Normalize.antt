@@ -1,7 +1,9 @@
--- The significand of a subnormal double shifted up to 53 digits, by the number of zeros above it; and of a normal one. Assumes nothing.
+-- The significand of a subnormal double shifted up to 53 digits, by the number of zeros above
+-- it; and of a normal one. Assumes nothing.
 use mathlib.Core.Path.{_≡_, sym, ap, _∙_}
 use Prim.Native.Nat.{ℕ, suc, _+_, _-_, _*_, _/_, _%_, _^_, _≤_, _<_}
-use native.Mathlib.Nat.{lt-of-not-le, mul-assoc, le-trans, le-of-eq, lt-of-lt-of-le, mul-le-mul-right, mul-lt-mul-of-pos-right, add-comm}
+use native.Mathlib.Nat.{lt-of-not-le, mul-assoc, le-trans, le-of-eq, lt-of-lt-of-le, mul-le-mul-right}
+use native.Mathlib.Nat.{mul-lt-mul-of-pos-right, add-comm}
 use native.Mathlib.Decide.{decLe}
 use native.Mathlib.Omega.{arith}
 use lib.Pow.{pow-pos, pow-add, pow-mono}
@@ -25,8 +27,12 @@ shifted l p h =
     record {
       least = omega arith;
       most = omega arith;
-      normal = le-trans (le-of-eq (ap (λ (x : ℕ). 2 ^ x) (let y : 52 ≡ j + (z - 11) = omega arith in y) ∙ pow-add 2 j (z - 11))) (mul-le-mul-right (2 ^ (z - 11)) (t .2));
-      fits = lt-of-lt-of-le (mul-lt-mul-of-pos-right (t .3) (pow-pos (z - 11))) (le-of-eq (sym (ap (λ (x : ℕ). 2 ^ x) (let y : 53 ≡ suc j + (z - 11) = omega arith in y) ∙ pow-add 2 (suc j) (z - 11))));
+      normal = le-trans
+          (le-of-eq (ap (λ (x : ℕ). 2 ^ x) (let y : 52 ≡ j + (z - 11) = omega arith in y) ∙ pow-add 2 j (z - 11)))
+          (mul-le-mul-right (2 ^ (z - 11)) (t .2));
+      fits = lt-of-lt-of-le (mul-lt-mul-of-pos-right (t .3) (pow-pos (z - 11)))
+          (le-of-eq (sym
+          (ap (λ (x : ℕ). 2 ^ x) (let y : 53 ≡ suc j + (z - 11) = omega arith in y) ∙ pow-add 2 (suc j) (z - 11))));
     }
   where
     small-power : (j l : ℕ) → 2 ^ j ≤ l → l < 2 ^ 52 → j < 52
@@ -35,7 +41,8 @@ shifted l p h =
       | no f ↦ lt-of-not-le f
     ]
 
-pub subnormal : (b : ℕ) → 0 < b → b < 2 ^ 52 → Normalized b (b * 2 ^ (leadingZeros 64 b - 11)) (1022 - (leadingZeros 64 b - 11))
+pub subnormal : (b : ℕ) → 0 < b → b < 2 ^ 52
+    → Normalized b (b * 2 ^ (leadingZeros 64 b - 11)) (1022 - (leadingZeros 64 b - 11))
 unfolding patternUnits
 subnormal b p h =
     let m = shifted b p h in
@@ -44,14 +51,25 @@ subnormal b p h =
       normal = m .normal;
       fits = m .fits;
       most = omega arith;
-      value = mul-assoc b (2 ^ u) (2 ^ (1022 - u)) ∙ ap (λ (x : ℕ). b * x) (sym (pow-add 2 u (1022 - u)) ∙ ap (λ (x : ℕ). 2 ^ x) (let l = m .most in let y : u + (1022 - u) ≡ 1022 = omega arith in y)) ∙ ap (λ (x : ℕ). x * 2 ^ 1022) (sym (ap (λ (x : ℕ). fieldUnits x (b % 2 ^ 52)) (let y : b / 2 ^ 52 ≡ 0 = omega arith in y) ∙ (let y : b % 2 ^ 52 ≡ b = omega arith in y)));
+      value = mul-assoc b (2 ^ u) (2 ^ (1022 - u))
+          ∙ ap (λ (x : ℕ). b * x)
+          (sym (pow-add 2 u (1022 - u))
+          ∙ ap (λ (x : ℕ). 2 ^ x) (let l = m .most in let y : u + (1022 - u) ≡ 1022 = omega arith in y))
+          ∙ ap (λ (x : ℕ). x * 2 ^ 1022)
+          (sym (ap (λ (x : ℕ). fieldUnits x (b % 2 ^ 52)) (let y : b / 2 ^ 52 ≡ 0 = omega arith in y)
+          ∙ (let y : b % 2 ^ 52 ≡ b = omega arith in y)));
     }
 
-pub normal : (b x : ℕ) → b / 2 ^ 52 ≡ suc x → b < 0x7ff0_0000_0000_0000 → Normalized b (b % 2 ^ 52 + 2 ^ 52) (b / 2 ^ 52 + 1021)
+pub normal : (b x : ℕ) → b / 2 ^ 52 ≡ suc x → b < 0x7ff0_0000_0000_0000
+    → Normalized b (b % 2 ^ 52 + 2 ^ 52) (b / 2 ^ 52 + 1021)
 unfolding patternUnits
 normal b x e h = record {
   normal = omega arith;
   fits = omega arith;
   most = omega arith;
-  value = ap (λ (y : ℕ). (b % 2 ^ 52 + 2 ^ 52) * y) (ap (λ (y : ℕ). 2 ^ y) (let y : b / 2 ^ 52 + 1021 ≡ x + 1022 = omega arith in y) ∙ pow-add 2 x 1022) ∙ sym (mul-assoc (b % 2 ^ 52 + 2 ^ 52) (2 ^ x) (2 ^ 1022)) ∙ ap (λ (y : ℕ). y * 2 ^ x * 2 ^ 1022) (add-comm (b % 2 ^ 52) (2 ^ 52)) ∙ ap (λ (y : ℕ). y * 2 ^ 1022) (sym (ap (λ (y : ℕ). fieldUnits y (b % 2 ^ 52)) e));
+  value = ap (λ (y : ℕ). (b % 2 ^ 52 + 2 ^ 52) * y)
+      (ap (λ (y : ℕ). 2 ^ y) (let y : b / 2 ^ 52 + 1021 ≡ x + 1022 = omega arith in y) ∙ pow-add 2 x 1022)
+      ∙ sym (mul-assoc (b % 2 ^ 52 + 2 ^ 52) (2 ^ x) (2 ^ 1022))
+      ∙ ap (λ (y : ℕ). y * 2 ^ x * 2 ^ 1022) (add-comm (b % 2 ^ 52) (2 ^ 52))
+      ∙ ap (λ (y : ℕ). y * 2 ^ 1022) (sym (ap (λ (y : ℕ). fieldUnits y (b % 2 ^ 52)) e));
 }

@@ -1,7 +1,8 @@
 -- The cube root of a double from its significand and exponent, and of a negative double. Assumes nothing.
 use mathlib.Core.Path.{_≡_, refl, sym, ap, ap₂, _∙_, subst}
 use Prim.Native.Nat.{ℕ, zero, suc, _+_, _-_, _*_, _/_, _%_, _^_, _≤_, _<_, compare, Ordering·lt, Ordering·gt}
-use native.Mathlib.Nat.{zero-add, mul-assoc, mul-pos, le-trans, lt-of-lt-of-le, mul-le-mul-left, mul-le-mul-right, mul-lt-mul-of-pos-right}
+use native.Mathlib.Nat.{zero-add, mul-assoc, mul-pos, le-trans, lt-of-lt-of-le, mul-le-mul-left, mul-le-mul-right}
+use native.Mathlib.Nat.{mul-lt-mul-of-pos-right}
 use native.Mathlib.Omega.{arith}
 use mathlib.Core.Bool.{Bool, true, false, not, cond}
 use lib.Dec.{ltb}
@@ -35,7 +36,8 @@ unfolding nearestTo units
 neg-nearest s real d =
     let q = significandOf 53 real d in
     let k = exponentOf 53 real d in
-    neg-cond (ltb (q * 2 ^ k) (2 ^ (1074 + 1024))) s (odd 54 s q k 1074) (odd 54 (not s) q k 1074) (neg-odd 54 s q k 1074)
+    neg-cond (ltb (q * 2 ^ k) (2 ^ (1074 + 1024))) s (odd 54 s q k 1074) (odd 54 (not s) q k 1074)
+    (neg-odd 54 s q k 1074)
 
 pub cbrt-neg : (x : Float) → neg (cbrtOf x) ≡ cbrtOf (neg x)
 unfolding neg cbrtOf
@@ -53,22 +55,30 @@ rootOf m o = cbrtReal 1 (m * 2 ^ (107 + o)) 1
 module _ (m o : ℕ) (normal : 2 ^ 52 ≤ m) (fits : m < 2 ^ 53) (third : o < 3) where
   bounded : Bounded (rootOf m o) 54
   bounded = cbrt-bounded 1 (m * 2 ^ (107 + o)) 1 54 (let z : 0 < 1 = omega arith in z)
-      (lt-of-lt-of-le (mul-lt-mul-of-pos-right (mul-lt-mul-of-pos-right fits (pow-pos (107 + o))) (let z : 0 < 1 = omega arith in z))
+      (lt-of-lt-of-le
+      (mul-lt-mul-of-pos-right (mul-lt-mul-of-pos-right fits (pow-pos (107 + o)))
+      (let z : 0 < 1 = omega arith in z))
       (mul-le-mul-right 1 (mul-le-mul-left (2 ^ 53) (pow-mono (let z : 107 + o ≤ 109 = omega arith in z)))))
 
   pub in-binade : InBinade (rootOf m o)
   in-binade = record {
     monotone = bounded .monotone;
-    start = le→ge (m * 2 ^ (107 + o) * 1) (2 ^ 159 * 1) (mul-le-mul-right 1 (le-trans (mul-le-mul-right (2 ^ 107) normal) (mul-le-mul-left m (pow-mono (let z : 107 ≤ 107 + o = omega arith in z)))));
+    start = le→ge (m * 2 ^ (107 + o) * 1) (2 ^ 159 * 1)
+        (mul-le-mul-right 1
+        (le-trans (mul-le-mul-right (2 ^ 107) normal)
+        (mul-le-mul-left m (pow-mono (let z : 107 ≤ 107 + o = omega arith in z)))));
     end = bounded .bound;
   }
 
   -- a candidate between whose midpoints the root lies
-  pub certified : (n e : ℕ) → 2 ^ 52 < n → n < 2 ^ 53 → e * 2 ^ 54 ≡ m * 2 ^ (107 + o) → Between 0 (2 * n) e → RoundsTo (rootOf m o) n
+  pub certified : (n e : ℕ) → 2 ^ 52 < n → n < 2 ^ 53 → e * 2 ^ 54 ≡ m * 2 ^ (107 + o) → Between 0 (2 * n) e
+      → RoundsTo (rootOf m o) n
   certified n e lo hi is b =
       rounds-to-candidate (rootOf m o) (bounded .monotone) n lo hi
-      (said Ordering·gt (m * 2 ^ (107 + o) * 1) ((2 * n - 1) * (2 * n - 1) * (2 * n - 1) * 1) (times (cube-lt (2 * n - 1) (e * 2 ^ 54) (m * 2 ^ (107 + o)) is (b .above))))
-      (said Ordering·lt (m * 2 ^ (107 + o) * 1) ((2 * n + 1) * (2 * n + 1) * (2 * n + 1) * 1) (times (lt-cube (2 * n + 1) (e * 2 ^ 54) (m * 2 ^ (107 + o)) is (b .below))))
+      (said Ordering·gt (m * 2 ^ (107 + o) * 1) ((2 * n - 1) * (2 * n - 1) * (2 * n - 1) * 1)
+      (times (cube-lt (2 * n - 1) (e * 2 ^ 54) (m * 2 ^ (107 + o)) is (b .above))))
+      (said Ordering·lt (m * 2 ^ (107 + o) * 1) ((2 * n + 1) * (2 * n + 1) * (2 * n + 1) * 1)
+      (times (lt-cube (2 * n + 1) (e * 2 ^ 54) (m * 2 ^ (107 + o)) is (b .below))))
     where
       times : {x y : ℕ} → x < y → x * 1 < y * 1
       times h = mul-lt-mul-of-pos-right h (let z : 0 < 1 = omega arith in z)
@@ -86,7 +96,8 @@ module _ (m o : ℕ) (normal : 2 ^ 52 ≤ m) (fits : m < 2 ^ 53) (third : o < 3)
 
 module _ (b m x : ℕ) (n : Normalized b m x) (some : 0 < b) (finite : b < 0x7ff0_0000_0000_0000) where
   -- the magnitude is the significand's number in units of 2 ^ k units
-  power : patternUnits b * 2 ^ 2151 ≡ m * 2 ^ (107 + (x + 1022) % 3) * (2 ^ ((x + 1022) / 3) * 2 ^ ((x + 1022) / 3) * 2 ^ ((x + 1022) / 3))
+  power : patternUnits b * 2 ^ 2151
+      ≡ m * 2 ^ (107 + (x + 1022) % 3) * (2 ^ ((x + 1022) / 3) * 2 ^ ((x + 1022) / 3) * 2 ^ ((x + 1022) / 3))
   power =
       let k = (x + 1022) / 3 in
       let o = (x + 1022) % 3 in
@@ -94,23 +105,33 @@ module _ (b m x : ℕ) (n : Normalized b m x) (some : 0 < b) (finite : b < 0x7ff
       ∙ sym (mul-assoc (patternUnits b) (2 ^ 1022) (2 ^ 1129))
       ∙ ap (λ (z : ℕ). z * 2 ^ 1129) (sym (n .value))
       ∙ mul-assoc m (2 ^ x) (2 ^ 1129)
-      ∙ ap (λ (z : ℕ). m * z) (sym (pow-add 2 x 1129) ∙ ap (λ (z : ℕ). 2 ^ z) (let z : x + 1129 ≡ 107 + o + (k + k + k) = omega arith in z) ∙ pow-add 2 (107 + o) (k + k + k) ∙ ap (λ (z : ℕ). 2 ^ (107 + o) * z) (pow-add 2 (k + k) k ∙ ap (λ (z : ℕ). z * 2 ^ k) (pow-add 2 k k)))
+      ∙ ap (λ (z : ℕ). m * z)
+      (sym (pow-add 2 x 1129) ∙ ap (λ (z : ℕ). 2 ^ z) (let z : x + 1129 ≡ 107 + o + (k + k + k) = omega arith in z)
+      ∙ pow-add 2 (107 + o) (k + k + k)
+      ∙ ap (λ (z : ℕ). 2 ^ (107 + o) * z) (pow-add 2 (k + k) k ∙ ap (λ (z : ℕ). z * 2 ^ k) (pow-add 2 k k)))
       ∙ sym (mul-assoc m (2 ^ (107 + o)) (2 ^ k * 2 ^ k * 2 ^ k))
 
-  same : (j : ℕ) → cbrtReal (2 ^ 1075) (patternUnits b) (2 ^ 1074) (j * 2 ^ ((x + 1022) / 3)) ≡ rootOf m ((x + 1022) % 3) j
-  same j = scaled (patternUnits b) (2 ^ 2151) (2 ^ 1074) (m * 2 ^ (107 + (x + 1022) % 3)) (2 ^ ((x + 1022) / 3)) power (pow-pos ((x + 1022) / 3)) (pow-pos 1074)
+  same : (j : ℕ)
+      → cbrtReal (2 ^ 1075) (patternUnits b) (2 ^ 1074) (j * 2 ^ ((x + 1022) / 3)) ≡ rootOf m ((x + 1022) % 3) j
+  same j = scaled (patternUnits b) (2 ^ 2151) (2 ^ 1074) (m * 2 ^ (107 + (x + 1022) % 3)) (2 ^ ((x + 1022) / 3)) power
+      (pow-pos ((x + 1022) / 3)) (pow-pos 1074)
     where
-      scaled : (a P D c u : ℕ) → a * P ≡ c * (u * u * u) → 0 < u → 0 < D → compare (a * (P * D)) (j * u * (j * u) * (j * u) * D) ≡ compare (c * 1) (j * j * j * 1)
+      scaled : (a P D c u : ℕ) → a * P ≡ c * (u * u * u) → 0 < u → 0 < D
+          → compare (a * (P * D)) (j * u * (j * u) * (j * u) * D) ≡ compare (c * 1) (j * j * j * 1)
       scaled a P D c u e pu pd =
           ap₂ (λ (y z : ℕ). compare y z)
-          (let y : a * P * D ≡ c * (u * u * u) * D = ap (λ (w : ℕ). w * D) e in let z : a * (P * D) ≡ c * 1 * (u * u * u * D) = omega arith in z)
+          (let y : a * P * D ≡ c * (u * u * u) * D = ap (λ (w : ℕ). w * D) e in
+          let z : a * (P * D) ≡ c * 1 * (u * u * u * D) = omega arith in z)
           (let z : j * u * (j * u) * (j * u) * D ≡ j * j * j * 1 * (u * u * u * D) = omega arith in z)
           ∙ compare-scaled (u * u * u * D) (c * 1) (j * j * j * 1) (mul-pos (mul-pos (mul-pos pu pu) pu) pd)
 
-  pub root-pattern : (r : ℕ) → RoundsTo (rootOf m ((x + 1022) % 3)) r → ofBits binary64 ((x + 1022) / 3 * 2 ^ 52 + r) ≡ cbrtOf (ofBits binary64 b)
+  pub root-pattern : (r : ℕ) → RoundsTo (rootOf m ((x + 1022) % 3)) r
+      → ofBits binary64 ((x + 1022) / 3 * 2 ^ 52 + r) ≡ cbrtOf (ofBits binary64 b)
   root-pattern r h =
       ap (ofBits binary64) (sym (zero-add ((x + 1022) / 3 * 2 ^ 52 + r)))
       ∙ binade-pattern (cbrtReal (2 ^ 1075) (patternUnits b) (2 ^ 1074)) (rootOf m ((x + 1022) % 3)) 1600
-      (cbrt-double-bounded (patternUnits b) (2 ^ 1074) (pow-pos 1074) (units-lt b 2045 (let z : b < 2047 * 2 ^ 52 = omega arith in z)))
+      (cbrt-double-bounded (patternUnits b) (2 ^ 1074) (pow-pos 1074)
+      (units-lt b 2045 (let z : b < 2047 * 2 ^ 52 = omega arith in z)))
       ((x + 1022) / 3) (let z = n .most in let y : (x + 1022) / 3 < 2044 = omega arith in y) same false r h
-      ∙ sym (cbrt-of-value (ofBits binary64 b) false (patternUnits b) (2 ^ 1074) (pattern-value false b b finite (sym (zero-add b))) (pattern-units-pos b some) (pow-pos 1074))
+      ∙ sym (cbrt-of-value (ofBits binary64 b) false (patternUnits b) (2 ^ 1074)
+      (pattern-value false b b finite (sym (zero-add b))) (pattern-units-pos b some) (pow-pos 1074))

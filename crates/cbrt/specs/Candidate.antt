@@ -12,7 +12,8 @@ firstGuess b = ofBits binary64 (b / 3 + 0x2a9f_7893_782d_a1ce)
 -- 1.87595182427177 - r (1.8849797954337717 - r 1.6214297201053545) + r³ (r 0.14599619288661245 - 0.758397934778766)
 unfoldable pub factorOf : Float → Float
 factorOf r =
-    ofBits binary64 0x3ffe_03e6_0f61_e692 -ᶠ r *ᶠ (ofBits binary64 0x3ffe_28e0_92f0_2420 -ᶠ r *ᶠ ofBits binary64 0x3ff9_f160_4a49_d6c2)
+    ofBits binary64 0x3ffe_03e6_0f61_e692
+    -ᶠ r *ᶠ (ofBits binary64 0x3ffe_28e0_92f0_2420 -ᶠ r *ᶠ ofBits binary64 0x3ff9_f160_4a49_d6c2)
     +ᶠ r *ᶠ r *ᶠ r *ᶠ (r *ᶠ ofBits binary64 0x3fc2_b000_d4e4_edd7 -ᶠ ofBits binary64 0x3fe8_44cb_bee7_51d9)
 
 -- 2 ^ 27 + 1 splits off 26 digits; the last two factors are 1/3 and 2/9
@@ -29,4 +30,5 @@ unfolding firstGuess factorOf refinedRoot
 candidateOf x b =
     let inverse = 1ᶠ /ᶠ x in
     let g = firstGuess b in
-    refinedRoot x inverse (leadingDigits (g *ᶠ factorOf (g *ᶠ g *ᶠ (g *ᶠ inverse))) (ofBits binary64 0x41d0_0000_0040_0000))
+    refinedRoot x inverse
+    (leadingDigits (g *ᶠ factorOf (g *ᶠ g *ᶠ (g *ᶠ inverse))) (ofBits binary64 0x41d0_0000_0040_0000))

@@ -1,4 +1,5 @@
--- What the answer of a certificate says of c as the pattern of the cube root of the normal double with the pattern b. Definitions only.
+-- What the answer of a certificate says of c as the pattern of the cube root of the normal
+-- double with the pattern b. Definitions only.
 use mathlib.Core.Path.{_≡_}
 use mathlib.Core.Bool.{Bool, true}
 use Prim.Native.Nat.{ℕ, _+_, _-_, _*_, _/_, _%_, _^_, _<_}
@@ -16,4 +17,5 @@ targetOf b = (b % 2 ^ 52 + 2 ^ 52) * 2 ^ ((b / 2 ^ 52 + 2043) % 3) * 2 ^ 53
 
 pub record RootBy (b c : ℕ) (r : Bool) : Type 0 where
   pub yes : r ≡ true → ofBits binary64 c ≡ cbrtOf (ofBits binary64 b)
-  pub sure : 2 ^ 52 < significandOf b c → significandOf b c < 2 ^ 53 → WellBetween 0 (2 * significandOf b c) (targetOf b) → r ≡ true
+  pub sure : 2 ^ 52 < significandOf b c → significandOf b c < 2 ^ 53
+      → WellBetween 0 (2 * significandOf b c) (targetOf b) → r ≡ true

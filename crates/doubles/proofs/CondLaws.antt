@@ -17,6 +17,7 @@ cond-by P true f g = f refl
 cond-by P false f g = g refl
 
 -- the same is picked where both are the same
-pub cond-same : {A : Type 0} (b : Bool) {x y x′ y′ : A} → (b ≡ true → x ≡ x′) → (b ≡ false → y ≡ y′) → cond b x y ≡ cond b x′ y′
+pub cond-same : {A : Type 0} (b : Bool) {x y x′ y′ : A} → (b ≡ true → x ≡ x′) → (b ≡ false → y ≡ y′)
+    → cond b x y ≡ cond b x′ y′
 cond-same true f g = f refl
 cond-same false f g = g refl

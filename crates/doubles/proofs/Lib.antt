@@ -12,4 +12,3 @@ pub mod ErrorChain
 pub mod DoubleLaws
 pub mod FunctionLaws
 pub mod ComparisonLaws
-pub mod NonNegativeLaws

@@ -1,9 +1,13 @@
--- How far `round` moves a fraction, in either format: at most half a unit in the last place. In units of the format's smallest value, with n / c the fraction and g
--- the result, 2 ^ prec * |g * c - n| is at most n + 2 ^ (prec - 1) * c; and at most n where n / c is a whole number of units. Subnormal results included. Assumes nothing.
-use mathlib.Core.Path.{_≡_, refl, sym, ap, _∙_, subst}
+-- How far `round` moves a fraction, in either format: at most half a unit in the last place.
+-- In units of the format's smallest value, with n / c the fraction and g the result,
+-- 2 ^ prec * |g * c - n| is at most n + 2 ^ (prec - 1) * c; and at most n where n / c is a
+-- whole number of units. Subnormal results included. Assumes nothing.
+use mathlib.Core.Path.{_≡_, sym, ap, _∙_, subst}
 use mathlib.Core.Logic.{inl, inr}
-use Prim.Native.Nat.{ℕ, zero, suc, _+_, _-_, _*_, _/_, _%_, _^_, _≤_, _<_, compare, Ordering, Ordering·lt, Ordering·eq, Ordering·gt}
-use native.Mathlib.Nat.{le-trans, le-of-eq, eq-zero-or-pos, mul-le-mul-left, mul-le-mul-right, mul-pos, mul-one, mod-lt, div-add-mod', le-div-iff-mul-le, pow-succ', le-of-mul-le-mul-right}
+use Prim.Native.Nat.{ℕ, suc, _+_, _-_, _*_, _/_, _%_, _^_, _≤_, _<_, compare, Ordering, Ordering·lt, Ordering·eq}
+use Prim.Native.Nat.{Ordering·gt}
+use native.Mathlib.Nat.{le-trans, le-of-eq, eq-zero-or-pos, mul-le-mul-left, mul-le-mul-right, mul-pos, mul-one, mod-lt}
+use native.Mathlib.Nat.{div-add-mod', le-div-iff-mul-le, pow-succ', le-of-mul-le-mul-right}
 use native.Mathlib.Omega.{arith}
 use lib.Pow.{pow-add, pow-pos}
 use lib.Ieee.{Format, prec, low, nearest, size}
@@ -12,7 +16,8 @@ use lib.Ieee.Fits.{two, two-le-pos}
 use lib.Ieee.Nearest.{closest}
 use lib.Ieee.Order.{drop, kept}
 use lib.Ieee.Scale.{grid}
-use Rattle.bits.proofs.Comparison.{Says, says}
+use Rattle.bits.specs.Comparison.{Says}
+use Rattle.bits.proofs.Comparison.{says}
 use Rattle.doubles.specs.Error.{ErrorAtMost}
 
 -- ---- the nearest multiple of u is at most half a u away
@@ -48,8 +53,10 @@ twice p P = ap (λ (x : ℕ). 2 ^ x) (one-more p P) ∙ pow-succ' 2 (p - 1)
     one-more q Q = omega arith
 
 -- half a unit u = c * j in the last place, against h = 2 ^ (p - 1)
-scaled-error : (q j c n h e : ℕ) → ErrorAtMost 2 (q * (c * j)) n (c * j) → h * (c * j) ≤ e → ErrorAtMost (2 * h) (q * j * c) n e
-scaled-error q j c n h e x l = record { low = omega (arith, mul-le-mul-left h (x .low)); high = omega (arith, mul-le-mul-left h (x .high)) }
+scaled-error : (q j c n h e : ℕ) → ErrorAtMost 2 (q * (c * j)) n (c * j) → h * (c * j) ≤ e
+    → ErrorAtMost (2 * h) (q * j * c) n e
+scaled-error q j c n h e x l =
+    record { low = omega (arith, mul-le-mul-left h (x .low)); high = omega (arith, mul-le-mul-left h (x .high)) }
 
 -- a whole number that is at most half a one away is the number
 whole-same : (q c w : ℕ) → 0 < c → ErrorAtMost 2 (q * (c * 1)) (w * c) (c * 1) → q ≡ w
@@ -76,8 +83,12 @@ module _ (p n c : ℕ) (P : 0 < p) (C : 0 < c) where
         subst (λ (x : ℕ). ErrorAtMost 2 (kept p n c * (c * 1)) x (c * 1)) e
         (subst (λ (x : ℕ). ErrorAtMost 2 (kept p n c * (c * 2 ^ x)) n (c * 2 ^ x)) z kept-half)) in
         let y : kept p n c * 2 ^ drop p n c * c ≡ n =
-        ap (λ (x : ℕ). x * 2 ^ drop p n c * c) g ∙ ap (λ (x : ℕ). w * 2 ^ x * c) z ∙ ap (λ (x : ℕ). x * c) (mul-one w) ∙ sym e in
-        record { low = omega (arith, ap (λ (x : ℕ). 2 * 2 ^ (p - 1) * x) y); high = omega (arith, ap (λ (x : ℕ). 2 * 2 ^ (p - 1) * x) y) }
+        ap (λ (x : ℕ). x * 2 ^ drop p n c * c) g ∙ ap (λ (x : ℕ). w * 2 ^ x * c) z ∙ ap (λ (x : ℕ). x * c) (mul-one w)
+        ∙ sym e in
+        record {
+          low = omega (arith, ap (λ (x : ℕ). 2 * 2 ^ (p - 1) * x) y);
+          high = omega (arith, ap (λ (x : ℕ). 2 * 2 ^ (p - 1) * x) y);
+        }
     | inr k ↦ scaled-error (kept p n c) (2 ^ drop p n c) c n (2 ^ (p - 1)) n kept-half (full p n c P C k)
   ]
 
@@ -94,7 +105,8 @@ module _ (f : Format) (a c : ℕ) (C : 0 < c) where
   round-error-whole n e =
       let w = 2 ^ prec f in
       let o : ErrorAtMost w (grid f a c * c) (n * c) (n * c) =
-      subst (λ (x : ℕ). ErrorAtMost w (grid f a c * c) x x) e (rw (twice (prec f) P) (kept-error-whole (prec f) (a * 2 ^ low f) c P C n e)) in
+      subst (λ (x : ℕ). ErrorAtMost w (grid f a c * c) x x) e
+      (rw (twice (prec f) P) (kept-error-whole (prec f) (a * 2 ^ low f) c P C n e)) in
       record {
         low = le-of-mul-le-mul-right {m = w * grid f a c} {n = w * n + n} {k = c} (omega (arith, o .low)) C;
         high = le-of-mul-le-mul-right {m = w * n} {n = w * grid f a c + n} {k = c} (omega (arith, o .high)) C;

@@ -1,14 +1,15 @@
 -- Laws of signed whole numbers as pairs: each is linear arithmetic over monomials. Assumes nothing.
-use mathlib.Core.Path.{_≡_, refl}
-use Prim.Native.Nat.{ℕ, _+_, _-_, _*_, _≤_, _<_}
+use mathlib.Core.Path.{_≡_}
+use Prim.Native.Nat.{ℕ, _+_, _-_, _*_, _≤_}
 use native.Mathlib.Nat.{mul-le-mul-left, mul-sub, mul-add}
 use native.Mathlib.Omega.{arith}
 use mathlib.Core.Bool.{Bool, true, false}
-use Rattle.doubles.specs.Signed.{Signed, _⊕_, _⊙_, minus, size, Near, Within}
+use Rattle.doubles.specs.Signed.{Signed, _⊕_, _⊙_, size, Near, Within}
 use Rattle.doubles.specs.Value.{signed}
 
 -- two pairs with equal parts
-pub pair-eq : (a b c d : ℕ) → a ≡ c → b ≡ d → _≡_ {A = Signed} (record { plus = a; less = b }) (record { plus = c; less = d })
+pub pair-eq : (a b c d : ℕ) → a ≡ c → b ≡ d
+    → _≡_ {A = Signed} (record { plus = a; less = b }) (record { plus = c; less = d })
 pair-eq a b c d p q = λ i. record { plus = p i; less = q i }
 
 -- ---- sizes
@@ -22,7 +23,13 @@ pub size-add : (x y : Signed) → size (x ⊕ y) ≤ size x + size y
 size-add x y = omega arith
 
 pub size-times : (c : ℕ) (x : Signed) → size (c ⊙ x) ≡ c * size x
-size-times c x = omega (arith, mul-sub c (x .plus) (x .less), mul-sub c (x .less) (x .plus), mul-add c (x .plus - x .less) (x .less - x .plus))
+size-times c x =
+    omega (
+      arith,
+      mul-sub c (x .plus) (x .less),
+      mul-sub c (x .less) (x .plus),
+      mul-add c (x .plus - x .less) (x .less - x .plus),
+    )
 
 pub size-signed : (s : Bool) (n : ℕ) → size (signed s n) ≡ n
 size-signed false n = omega arith
@@ -42,4 +49,5 @@ pub near-add : (x y z w : Signed) (e d : ℕ) → Near x y e → Near z w d → 
 near-add x y z w e d h k = record { low = omega arith; high = omega arith }
 
 pub near-times : (x y : Signed) (e c : ℕ) → Near x y e → Near (c ⊙ x) (c ⊙ y) (c * e)
-near-times x y e c h = record { low = omega (arith, mul-le-mul-left c (h .low)); high = omega (arith, mul-le-mul-left c (h .high)) }
+near-times x y e c h =
+    record { low = omega (arith, mul-le-mul-left c (h .low)); high = omega (arith, mul-le-mul-left c (h .high)) }

@@ -1,8 +1,11 @@
--- Laws of exact values: a value that the format holds is a whole number of units and its own rounding, and what `round` gives has the value `grid`. Assumes nothing.
-use mathlib.Core.Path.{_≡_, refl, sym, ap, _∙_, subst}
+-- Laws of exact values: a value that the format holds is a whole number of units and its own
+-- rounding, and what `round` gives has the value `grid`. Assumes nothing.
+use mathlib.Core.Path.{_≡_, refl, sym, ap, _∙_}
 use mathlib.Core.Logic.{_⊎_, inl, inr}
 use Prim.Native.Nat.{ℕ, zero, suc, _+_, _-_, _*_, _/_, _%_, _^_, _≤_, _<_}
-use native.Mathlib.Nat.{lt-of-not-le, le-of-suc-le-suc, not-le-of-lt, add-sub-of-le, mul-one, zero-mul, zero-div, div-one, mul-assoc, mul-comm, mul-pos, mul-div-cancel, mul-lt-mul-of-pos-right, lt-of-mul-lt-mul-right, pow-succ'}
+use native.Mathlib.Nat.{lt-of-not-le, le-of-suc-le-suc, not-le-of-lt, add-sub-of-le, mul-one, zero-mul, zero-div}
+use native.Mathlib.Nat.{mul-assoc, mul-comm, mul-div-cancel, mul-lt-mul-of-pos-right}
+use native.Mathlib.Nat.{lt-of-mul-lt-mul-right, pow-succ'}
 use native.Mathlib.Omega.{arith}
 use mathlib.Core.Bool.{Bool, true, false, _&&_, cond}
 use lib.IntN.{ℤ, pos, negsuc}
@@ -14,7 +17,7 @@ use lib.Ieee.Exact.{HasValue, units-val, round-exact}
 use lib.Ieee.Order.{drop, kept}
 use lib.Ieee.Scale.{grid, overflow, finite, round-same}
 use Rattle.bits.proofs.Patterns.{value-unique}
-use Rattle.doubles.specs.Signed.{Signed, zeroˢ}
+use Rattle.doubles.specs.Signed.{zeroˢ}
 use Rattle.doubles.specs.Value.{signed, magnitude, value}
 
 -- ---- any whole number of units that x equals is its value
@@ -48,13 +51,16 @@ exponent-reaches l k h = le-of-suc-le-suc (lt-of-not-le (λ (g : suc l ≤ suc k
 
 -- m * 2 ^ e in units is m shifted
 shift : (m : ℕ) (e : ℤ) (l : ℕ) → down e ≤ 2 ^ l → (j : ℕ) × (m * up e * 2 ^ l ≡ m * 2 ^ j * down e)
-shift m (pos k) l h = (k + l, mul-assoc m (2 ^ k) (2 ^ l) ∙ ap (λ (x : ℕ). m * x) (sym (pow-add 2 k l)) ∙ sym (mul-one (m * 2 ^ (k + l))))
+shift m (pos k) l h =
+    (k + l, mul-assoc m (2 ^ k) (2 ^ l) ∙ ap (λ (x : ℕ). m * x) (sym (pow-add 2 k l)) ∙ sym (mul-one (m * 2 ^ (k + l))))
 shift m (negsuc k) l h =
     let d = 2 ^ suc k in
     let r = 2 ^ (l - suc k) in (
       l - suc k,
       ap (λ (x : ℕ). x * 2 ^ l) (mul-one m)
-          ∙ ap (λ (x : ℕ). m * x) (ap (λ (x : ℕ). 2 ^ x) (sym (add-sub-of-le (exponent-reaches l k h))) ∙ pow-add 2 (suc k) (l - suc k) ∙ mul-comm d r)
+          ∙ ap (λ (x : ℕ). m * x)
+          (ap (λ (x : ℕ). 2 ^ x) (sym (add-sub-of-le (exponent-reaches l k h))) ∙ pow-add 2 (suc k) (l - suc k)
+          ∙ mul-comm d r)
           ∙ sym (mul-assoc m r d),
     )
 
@@ -85,16 +91,19 @@ pub record Digits (f : Format) (n : ℕ) : Type 0 where
   pub few : q < 2 ^ prec f
   pub under : n < overflow f
 
-pub magnitude-exact : (f : Format) (s : Bool) (m : ℕ) (e : ℤ) → T (fits f (fin s m e)) → magnitude f (fin s m e) * down e ≡ m * up e * 2 ^ low f
+pub magnitude-exact : (f : Format) (s : Bool) (m : ℕ) (e : ℤ) → T (fits f (fin s m e))
+    → magnitude f (fin s m e) * down e ≡ m * up e * 2 ^ low f
 unfolding magnitude
 magnitude-exact f s zero e h =
     let z : 0 * up e * 2 ^ low f ≡ 0 = omega arith in
     ap (λ (x : ℕ). x / down e * down e) z ∙ ap (λ (x : ℕ). x * down e) (zero-div (down e)) ∙ zero-mul (down e) ∙ sym z
 magnitude-exact f s (suc m) e h =
     let z = shift (suc m) e (low f) (held f s m e h .fine) in
-    ap (λ (x : ℕ). x / down e * down e) (z .1) ∙ ap (λ (x : ℕ). x * down e) (mul-div-cancel (suc m * 2 ^ z .0) (down-pos e)) ∙ sym (z .1)
+    ap (λ (x : ℕ). x / down e * down e) (z .1)
+    ∙ ap (λ (x : ℕ). x * down e) (mul-div-cancel (suc m * 2 ^ z .0) (down-pos e)) ∙ sym (z .1)
 
-pub digits : (f : Format) (s : Bool) (m : ℕ) (e : ℤ) → T (fits f (fin s (suc m) e)) → Digits f (magnitude f (fin s (suc m) e))
+pub digits : (f : Format) (s : Bool) (m : ℕ) (e : ℤ) → T (fits f (fin s (suc m) e))
+    → Digits f (magnitude f (fin s (suc m) e))
 unfolding magnitude
 digits f s m e h =
     let k = held f s m e h in
@@ -105,10 +114,16 @@ digits f s m e h =
       is = ap (λ (x : ℕ). x / down e) (z .1) ∙ mul-div-cancel (suc m * 2 ^ z .0) (down-pos e);
       few = k .few;
       under = lt-of-mul-lt-mul-right (down e) {m = magnitude f (fin s (suc m) e)} {n = overflow f}
-          (omega (arith, magnitude-exact f s (suc m) e h, mul-lt-mul-of-pos-right (k .under) (pow-pos (low f)), ap (λ (x : ℕ). x * down e) (pow-add 2 (low f) (suc (emax f)))));
+          (omega (
+            arith,
+            magnitude-exact f s (suc m) e h,
+            mul-lt-mul-of-pos-right (k .under) (pow-pos (low f)),
+            ap (λ (x : ℕ). x * down e) (pow-add 2 (low f) (suc (emax f))),
+          ));
     }
 
-pub fits-value : (f : Format) (s : Bool) (m : ℕ) (e : ℤ) → T (fits f (fin s m e)) → HasValue (fin s m e) s (magnitude f (fin s m e)) (2 ^ low f)
+pub fits-value : (f : Format) (s : Bool) (m : ℕ) (e : ℤ) → T (fits f (fin s m e))
+    → HasValue (fin s m e) s (magnitude f (fin s m e)) (2 ^ low f)
 fits-value f s m e h = (refl, sym (magnitude-exact f s m e h))
 
 -- the sign makes no difference to whether a value fits
@@ -141,31 +156,39 @@ round-zero f s c C = round-same f s 0 c 0 1 C (lit< tt) (omega arith) ∙ at-one
     at-one binary32 = unfold round in refl
     at-one binary64 = unfold round in refl
 
-pub round-held : (f : Format) (s : Bool) (m : ℕ) (e : ℤ) → T (fits f (fin s m e)) → round f s (m * up e) (down e) ≡ fin s m e
+pub round-held : (f : Format) (s : Bool) (m : ℕ) (e : ℤ) → T (fits f (fin s m e))
+    → round f s (m * up e) (down e) ≡ fin s m e
 round-held f s zero e h = rw (zero-fits f s e h) (round-zero f s 1 (lit< tt))
 round-held f s (suc m) e h =
     let n = magnitude f (fin s (suc m) e) in
     let d = digits f s m e h in
     let v : HasValue (round f s n (2 ^ low f)) s n (2 ^ low f) =
-    round-exact f s n (2 ^ low f) (d .q) (d .j) (pow-pos (low f)) (d .few) (rw (d .is) at (d .under)) (ap (λ (x : ℕ). x * 2 ^ low f) (d .is)) in
-    round-same f s (suc m * up e) (down e) n (2 ^ low f) (down-pos e) (pow-pos (low f)) (sym (magnitude-exact f s (suc m) e h))
-    ∙ value-unique f (round f s n (2 ^ low f)) (fin s (suc m) e) s n (round-fits f s n (2 ^ low f)) h v (fits-value f s (suc m) e h)
+    round-exact f s n (2 ^ low f) (d .q) (d .j) (pow-pos (low f)) (d .few) (rw (d .is) at (d .under))
+    (ap (λ (x : ℕ). x * 2 ^ low f) (d .is)) in
+    round-same f s (suc m * up e) (down e) n (2 ^ low f) (down-pos e) (pow-pos (low f))
+    (sym (magnitude-exact f s (suc m) e h))
+    ∙ value-unique f (round f s n (2 ^ low f)) (fin s (suc m) e) s n (round-fits f s n (2 ^ low f)) h v
+    (fits-value f s (suc m) e h)
 
 -- ---- what `round` gives, where it is finite
 units-under : (f : Format) (s : Bool) (q k : ℕ) → T (finite (units f s q k)) → q * 2 ^ k < overflow f
 unfolding units
 units-under f s q k = go (ltb (q * 2 ^ k) (overflow f)) (ltb→lt (q * 2 ^ k) (overflow f))
   where
-    go : (b : Bool) → (T b → q * 2 ^ k < overflow f) → T (finite (cond b (odd (suc (prec f)) s q k (low f)) (inf s))) → q * 2 ^ k < overflow f
+    go : (b : Bool) → (T b → q * 2 ^ k < overflow f) → T (finite (cond b (odd (suc (prec f)) s q k (low f)) (inf s)))
+        → q * 2 ^ k < overflow f
     go true h t = h tt
     go false h t = absurd t
 
 module _ (f : Format) (s : Bool) (a c : ℕ) (t : T (finite (round f s a c))) where
   pub round-under : grid f a c < overflow f
-  round-under = units-under f s (kept (prec f) (a * 2 ^ low f) c) (drop (prec f) (a * 2 ^ low f) c) (rw (round-is f s a c) at t)
+  round-under =
+      units-under f s (kept (prec f) (a * 2 ^ low f) c) (drop (prec f) (a * 2 ^ low f) c) (rw (round-is f s a c) at t)
 
   pub round-has-value : HasValue (round f s a c) s (grid f a c) (2 ^ low f)
-  round-has-value = rw (round-is f s a c) (units-val f s (kept (prec f) (a * 2 ^ low f) c) (drop (prec f) (a * 2 ^ low f) c) round-under)
+  round-has-value =
+      rw (round-is f s a c)
+      (units-val f s (kept (prec f) (a * 2 ^ low f) c) (drop (prec f) (a * 2 ^ low f) c) round-under)
 
   pub round-value : value f (round f s a c) ≡ signed s (grid f a c)
   round-value = value-of f (round f s a c) s (grid f a c) round-has-value

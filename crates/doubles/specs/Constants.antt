@@ -1,4 +1,5 @@
--- The numbers of the Rust's formulas, each by its bit pattern, as a literal of the code is in the logic. Definitions only.
+-- The numbers of the Rust's formulas, each by its bit pattern, as a literal of the code is in
+-- the logic. Definitions only.
 use lib.Ieee.{Float, binary64, ofBits}
 
 abbrev pub 0ᶠ : Float

@@ -1,6 +1,7 @@
--- The exact value of a double, over whole numbers: every finite double is a whole multiple of 2 ^ -1074. Promises are stated with these. Definitions only.
+-- The exact value of a double, over whole numbers: every finite double is a whole multiple of
+-- 2 ^ -1074. Promises are stated with these. Definitions only.
 use Prim.Native.Nat.{ℕ, _*_, _/_, _^_}
-use mathlib.Core.Bool.{Bool, cond}
+use mathlib.Core.Bool.{cond}
 use lib.IntN.{ℤ, pos, negℤ, natAbs}
 use lib.Ieee.{Float, nan, inf, fin, up, down}
 

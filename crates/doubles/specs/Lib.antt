@@ -1,4 +1,5 @@
--- The definitions of `doubles`: first what formulas are written with, then exact values, in which rounding errors are stated.
+-- The definitions of `doubles`: first what formulas are written with, then exact values, in
+-- which rounding errors are stated.
 pub mod Operators
 pub mod Constants
 pub mod Functions

@@ -1,4 +1,5 @@
--- The operators on doubles, so that a formula reads as the Rust has it: binary64, rounded once per operation. Definitions only.
+-- The operators on doubles, so that a formula reads as the Rust has it: binary64, rounded once
+-- per operation. Definitions only.
 use Prim.Native.Nat.{ℕ}
 use mathlib.Core.Bool.{Bool}
 use mathlib.Core.List.{List}

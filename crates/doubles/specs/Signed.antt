@@ -1,5 +1,6 @@
 -- Signed whole numbers for proofs by `omega`: a pair of naturals (plus, less) stands for plus - less. Definitions only.
--- Sums and multiples go part by part, so a statement about them is one about naturals. Two pairs may stand for one number:
+-- Sums and multiples go part by part, so a statement about them is one about naturals. Two
+-- pairs may stand for one number:
 -- what is stated of them is `Near`, `Within`, `Below` and `AtMost`, which see the number alone.
 use Prim.Native.Nat.{ℕ, _+_, _-_, _*_, _≤_, _<_}
 

@@ -1,6 +1,8 @@
--- The exact value of a finite float of either format: a whole number of its format's smallest positive value, 2 ^ -low, which is 2 ^ -1074 for an f64.
--- These whole numbers are called units below. A NaN and an infinity have the value 0, and no law says more of it. Definitions only.
-use Prim.Native.Nat.{ℕ, _*_, _/_, _^_}
+-- The exact value of a finite float of either format: a whole number of its format's smallest
+-- positive value, 2 ^ -low, which is 2 ^ -1074 for an f64.
+-- These whole numbers are called units below. A NaN and an infinity have the value 0, and no
+-- law says more of it. Definitions only.
+use Prim.Native.Nat.{ℕ, _*_, _/_, _^_, _≤_}
 use mathlib.Core.Path.{_≡_}
 use mathlib.Core.Bool.{Bool, true, false, not}
 use lib.Dec.{T}
@@ -8,7 +10,7 @@ use lib.Ieee.{Float, nan, inf, fin, Format, binary64, low, up, down, fits}
 use lib.Ieee.Scale.{finite}
 use Rattle.doubles.specs.Operators.{_≤ᶠ_}
 use Rattle.doubles.specs.Constants.{0ᶠ}
-use Rattle.doubles.specs.Signed.{Signed, zeroˢ}
+use Rattle.doubles.specs.Signed.{Signed, zeroˢ, _⊕_, minus, size}
 
 -- n, or -n where the sign is set
 abbrev pub signed : Bool → ℕ → Signed
@@ -49,3 +51,9 @@ Finite x = T (finite x)
 -- at least 0: +∞ and -0 are, a NaN isn't
 abbrev pub AtLeastZero : Float → Type 0
 AtLeastZero x = (0ᶠ ≤ᶠ x) ≡ true
+
+-- x and y are finite and at most d apart
+pub record Close (x y d : Float) : Type 0 where
+  pub x-finite : Finite x
+  pub y-finite : Finite y
+  pub apart : size (val x ⊕ minus (val y)) ≤ size (val d)

@@ -1,7 +1,10 @@
--- The cosine of a third of an angle: its comparison is that of a real number from 0 to 1, and what the function gives for a double t of the value ±a / b. Assumes nothing.
+-- The cosine of a third of an angle: its comparison is that of a real number from 0 to 1, and
+-- what the function gives for a double t of the value ±a / b. Assumes nothing.
 use mathlib.Core.Path.{_≡_, sym, ap, _∙_, subst}
 use Prim.Native.Nat.{ℕ, _+_, _-_, _*_, _^_, _≤_, _<_, compare, Ordering, Ordering·lt, Ordering·gt}
-use native.Mathlib.Nat.{le-trans, le-of-eq, le-of-lt, lt-of-lt-of-le, lt-of-le-of-lt, lt-of-not-le, mul-comm, mul-pos, mul-le-mul-right, mul-le-mul-left, mul-lt-mul-of-pos-right, lt-of-mul-lt-mul-right, le-of-mul-le-mul-right}
+use native.Mathlib.Nat.{le-trans, le-of-eq, le-of-lt, lt-of-lt-of-le, lt-of-le-of-lt, lt-of-not-le, mul-comm, mul-pos}
+use native.Mathlib.Nat.{mul-le-mul-right, mul-le-mul-left, mul-lt-mul-of-pos-right, lt-of-mul-lt-mul-right}
+use native.Mathlib.Nat.{le-of-mul-le-mul-right}
 use native.Mathlib.Decide.{decLe}
 use native.Mathlib.Omega.{arith}
 use mathlib.Core.Bool.{Bool, true, false, cond}
@@ -21,7 +24,9 @@ pub cond-false : (t : Bool) (x y : Ordering) → t ≡ false → cond t x y ≡ 
 cond-false t x y e = ap (λ (z : Bool). cond z x y) e
 
 -- 4n³ - 3n O² rises from n = O / 2 on: with P and N for the terms of t
-rises : (O b P N m d : ℕ) → 0 < b → O ≤ 2 * m → 0 < d → 4 * (m + d) * (m + d) * (m + d) * b + N ≤ 3 * (m + d) * O * O * b + P → 4 * m * m * m * b + N < 3 * m * O * O * b + P
+rises : (O b P N m d : ℕ) → 0 < b → O ≤ 2 * m → 0 < d
+    → 4 * (m + d) * (m + d) * (m + d) * b + N ≤ 3 * (m + d) * O * O * b + P
+    → 4 * m * m * m * b + N < 3 * m * O * O * b + P
 rises O b P N m d w h p e =
     let s : O * O ≤ 2 * m * (2 * m) = square-le O (2 * m) h in
     let t : O * O * (3 * d) ≤ 2 * m * (2 * m) * (3 * d) = mul-le-mul-right (3 * d) s in
@@ -43,7 +48,9 @@ pub cosine-monotone : (one : ℕ) (s : Bool) (a b : ℕ) → 0 < b → Monotone 
 cosine-monotone O s a b pos-b m n h l = elim (decLe O (2 * m)) [
   | yes g ↦
       let gn : O ≤ 2 * n = omega arith in
-      let ln : T (isGe (sides O s a b n)) = subst (λ (o : Ordering). T (isGe o)) (cond-false (ltb (2 * n) O) Ordering·gt (sides O s a b n) (le-ltb (2 * n) O gn)) l in
+      let ln : T (isGe (sides O s a b n)) =
+      subst (λ (o : Ordering). T (isGe o))
+      (cond-false (ltb (2 * n) O) Ordering·gt (sides O s a b n) (le-ltb (2 * n) O gn)) l in
       let e : m + (n - m) ≡ n = omega arith in
       let q = ge→le (3 * n * O * O * b + onLeft s a O) (4 * n * n * n * b + onRight s a O) ln in
       cond-false (ltb (2 * m) O) Ordering·gt (sides O s a b m) (le-ltb (2 * m) O g)
@@ -73,11 +80,13 @@ module _ (O : ℕ) (a b : ℕ) (pos-b : 0 < b) (most : a ≤ b) (n : ℕ) (h : O
       let c = cubes in
       said Ordering·lt (3 * n * O * O * b + 0) (4 * n * n * n * b + a * O * O * O) (omega arith)
 
-pub cosine-bounded : (one : ℕ) (s : Bool) (a b d : ℕ) → 0 < one → 0 < b → a ≤ b → one < 2 ^ d → Bounded (thirdAngleCosineReal one s a b) d
+pub cosine-bounded : (one : ℕ) (s : Bool) (a b d : ℕ) → 0 < one → 0 < b → a ≤ b → one < 2 ^ d
+    → Bounded (thirdAngleCosineReal one s a b) d
 cosine-bounded O s a b d pos-o pos-b most h = record {
   monotone = cosine-monotone O s a b pos-b;
   nonneg = subst (λ (t : Bool). T (isGe (cond t Ordering·gt (sides O s a b 0)))) (sym (lt-ltb 0 O pos-o)) tt;
-  bound = cond-false (ltb (2 * 2 ^ d) O) Ordering·gt (sides O s a b (2 ^ d)) (le-ltb (2 * 2 ^ d) O (let z : O ≤ 2 * 2 ^ d = omega arith in z)) ∙ above-one O a b pos-b most (2 ^ d) h s;
+  bound = cond-false (ltb (2 * 2 ^ d) O) Ordering·gt (sides O s a b (2 ^ d))
+      (le-ltb (2 * 2 ^ d) O (let z : O ≤ 2 * 2 ^ d = omega arith in z)) ∙ above-one O a b pos-b most (2 ^ d) h s;
 }
 
 pub cosine-double-bounded : (s : Bool) (a b : ℕ) → 0 < b → a ≤ b → Bounded (thirdAngleCosineReal (2 ^ 1075) s a b) 1077
@@ -87,23 +96,32 @@ cosine-double-bounded s a b p h = cosine-bounded (2 ^ 1075) s a b 1077 (pow-pos 
 
 -- whether the size of t is at most 1, for two fractions of one value
 pub size-le : (x y a b : ℕ) → 0 < b → x * b ≡ a * y → a ≤ b → x ≤ y
-size-le x y a b p e h = le-of-mul-le-mul-right (le-trans (le-of-eq e) (le-trans (mul-le-mul-right y h) (le-of-eq (mul-comm b y)))) p
+size-le x y a b p e h =
+    le-of-mul-le-mul-right (le-trans (le-of-eq e) (le-trans (mul-le-mul-right y h) (le-of-eq (mul-comm b y)))) p
 
 pub size-lt : (x y a b : ℕ) → 0 < y → x * b ≡ a * y → b < a → y < x
-size-lt x y a b p e h = lt-of-mul-lt-mul-right b (lt-of-le-of-lt (le-of-eq (mul-comm y b)) (lt-of-lt-of-le (mul-lt-mul-of-pos-right h p) (le-of-eq (sym e))))
+size-lt x y a b p e h =
+    lt-of-mul-lt-mul-right b
+    (lt-of-le-of-lt (le-of-eq (mul-comm y b)) (lt-of-lt-of-le (mul-lt-mul-of-pos-right h p) (le-of-eq (sym e))))
 
-pub cosine-of-value : (t : Float) (s : Bool) (a b : ℕ) → HasValue t s a b → 0 < b → a ≤ b → thirdAngleCosineOf t ≡ nearestTo binary64 false (thirdAngleCosineReal (2 ^ 1075) s a b) 1077
+pub cosine-of-value : (t : Float) (s : Bool) (a b : ℕ) → HasValue t s a b → 0 < b → a ≤ b
+    → thirdAngleCosineOf t ≡ nearestTo binary64 false (thirdAngleCosineReal (2 ^ 1075) s a b) 1077
 unfolding thirdAngleCosineOf
 cosine-of-value nan s a b h p l = absurd h
 cosine-of-value (inf u) s a b h p l = absurd h
 cosine-of-value (fin u m e) s a b h p l =
-    ap (λ (y : Bool). cond y (nearestTo binary64 false (thirdAngleCosineReal (2 ^ 1075) u (m * up e) (down e)) 1077) nan) (le-leb (m * up e) (down e) (size-le (m * up e) (down e) a b p (h .1) l))
+    ap (λ (y : Bool). cond y
+    (nearestTo binary64 false (thirdAngleCosineReal (2 ^ 1075) u (m * up e) (down e)) 1077) nan)
+    (le-leb (m * up e) (down e) (size-le (m * up e) (down e) a b p (h .1) l))
     ∙ ap (λ (y : Bool). nearestTo binary64 false (thirdAngleCosineReal (2 ^ 1075) y (m * up e) (down e)) 1077) (h .0)
-    ∙ (λ i. nearestTo binary64 false (λ (n : ℕ). cosine-fraction (2 ^ 1075) (m * up e) (down e) a b (down-pos e) p (h .1) n s i) 1077)
+    ∙ (λ i. nearestTo binary64 false
+    (λ (n : ℕ). cosine-fraction (2 ^ 1075) (m * up e) (down e) a b (down-pos e) p (h .1) n s i) 1077)
 
 pub cosine-outside : (t : Float) (s : Bool) (a b : ℕ) → HasValue t s a b → b < a → thirdAngleCosineOf t ≡ nan
 unfolding thirdAngleCosineOf
 cosine-outside nan s a b h l = absurd h
 cosine-outside (inf u) s a b h l = absurd h
 cosine-outside (fin u m e) s a b h l =
-    ap (λ (y : Bool). cond y (nearestTo binary64 false (thirdAngleCosineReal (2 ^ 1075) u (m * up e) (down e)) 1077) nan) (lt-leb (m * up e) (down e) (size-lt (m * up e) (down e) a b (down-pos e) (h .1) l))
+    ap (λ (y : Bool). cond y
+    (nearestTo binary64 false (thirdAngleCosineReal (2 ^ 1075) u (m * up e) (down e)) 1077) nan)
+    (lt-leb (m * up e) (down e) (size-lt (m * up e) (down e) a b (down-pos e) (h .1) l))

@@ -2,12 +2,13 @@
 use mathlib.Core.Path.{_≡_, refl, sym, ap, subst}
 use mathlib.Core.Logic.{_⊎_, inl, inr}
 use Prim.Native.Nat.{ℕ, suc, _*_, _≤_, _<_, compare, Ordering, Ordering·lt, Ordering·eq, Ordering·gt}
-use native.Mathlib.Nat.{eq-or-lt-of-le, le-of-lt, le-of-eq, le-trans, lt-of-lt-of-le, lt-of-not-le, mul-lt-mul-of-pos-right, mul-le-mul-right, mul-le-mul-left}
+use native.Mathlib.Nat.{eq-or-lt-of-le, le-of-lt, le-of-eq, le-trans, lt-of-lt-of-le, lt-of-not-le}
+use native.Mathlib.Nat.{mul-lt-mul-of-pos-right, mul-le-mul-right, mul-le-mul-left}
 use native.Mathlib.Omega.{arith}
 use mathlib.Core.Bool.{not}
-use lib.Dec.{T, isLe, isEq, eqb, leb→le, nleb→lt, eqb→eq, eqb-refl}
-use lib.Arith.{lt-of-le-ne}
-pub use Rattle.bits.proofs.Comparison.{Says, says}
+use lib.Dec.{T, isLe}
+pub use Rattle.bits.specs.Comparison.{Says}
+pub use Rattle.bits.proofs.Comparison.{says}
 use Rattle.elementary.specs.Nearest.{Real, isGe, AtMost, Above, Monotone}
 use Rattle.elementary.specs.Reals.{opposite}
 

@@ -31,7 +31,8 @@ unfolding thirdAngleSineOf ofBits
 sine-one = refl
 
 -- t = -1: the cosine is 1/2, the sine SIN_120, the double nearest to √3 / 2
-pub cosine-minus-one : thirdAngleCosineOf (ofBits binary64 0xBFF0_0000_0000_0000) ≡ ofBits binary64 0x3FE0_0000_0000_0000
+pub cosine-minus-one : thirdAngleCosineOf (ofBits binary64 0xBFF0_0000_0000_0000)
+    ≡ ofBits binary64 0x3FE0_0000_0000_0000
 unfolding thirdAngleCosineOf ofBits
 cosine-minus-one = refl
 

@@ -1,5 +1,6 @@
--- Square root, cube root, and the cosine and sine of a third of an angle on doubles: the nearest double, a tie to the even significand. A double's unit is
--- 2 ^ -1074, so 2 ^ 1075 half units make 1. Definitions only.
+-- Square root, cube root, and the cosine and sine of a third of an angle on doubles: the
+-- nearest double, a tie to the even significand. A double's unit is 2 ^ -1074, so 2 ^ 1075
+-- half units make 1. Definitions only.
 use Prim.Native.Nat.{zero, suc, _*_, _^_}
 use mathlib.Core.Bool.{false, cond}
 use lib.Dec.{leb}
@@ -28,11 +29,15 @@ unfoldable pub thirdAngleCosineOf : Float → Float
 unfolding nearestTo
 thirdAngleCosineOf nan = nan
 thirdAngleCosineOf (inf s) = nan
-thirdAngleCosineOf (fin s m e) = cond (leb (m * up e) (down e)) (nearestTo binary64 false (thirdAngleCosineReal (2 ^ 1075) s (m * up e) (down e)) 1077) nan
+thirdAngleCosineOf (fin s m e) =
+    cond (leb (m * up e) (down e))
+    (nearestTo binary64 false (thirdAngleCosineReal (2 ^ 1075) s (m * up e) (down e)) 1077) nan
 
 -- √(1 - c²) of the exact c, for t from -1 to 1, and NaN for other t
 unfoldable pub thirdAngleSineOf : Float → Float
 unfolding nearestTo
 thirdAngleSineOf nan = nan
 thirdAngleSineOf (inf s) = nan
-thirdAngleSineOf (fin s m e) = cond (leb (m * up e) (down e)) (nearestTo binary64 false (thirdAngleSineReal (2 ^ 1075) s (m * up e) (down e)) 1077) nan
+thirdAngleSineOf (fin s m e) =
+    cond (leb (m * up e) (down e))
+    (nearestTo binary64 false (thirdAngleSineReal (2 ^ 1075) s (m * up e) (down e)) 1077) nan

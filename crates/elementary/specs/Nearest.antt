@@ -1,7 +1,8 @@
--- A positive real number as its comparison with whole numbers, and the value of a format that is nearest to it, a tie to the even significand. Definitions only.
+-- A positive real number as its comparison with whole numbers, and the value of a format that
+-- is nearest to it, a tie to the even significand. Definitions only.
 --
--- The numbers of a format are whole multiples of its smallest positive value, the unit. A real is compared with whole numbers of half units, because the
--- midpoint of v units and w units is v + w half units.
+-- The numbers of a format are whole multiples of its smallest positive value, the unit. A real
+-- is compared with whole numbers of half units, because the midpoint of v units and w units is v + w half units.
 use mathlib.Core.Path.{_≡_}
 use mathlib.Core.Logic.{_⊎_}
 use Prim.Native.Nat.{ℕ, zero, suc, _+_, _-_, _*_, _/_, _^_, _<_, Ordering, Ordering·lt, Ordering·eq, Ordering·gt}
@@ -50,8 +51,9 @@ Representable p w = (m : ℕ) × (j : ℕ) × (m < 2 ^ p) × (w ≡ m * 2 ^ j)
 abbrev pub EvenBeside : ℕ → ℕ → Type 0
 EvenBeside w r = (h : ℕ) × (k : ℕ) × (r ≡ 2 * h * 2 ^ k) × ((w ≡ r + 2 ^ k) ⊎ (w + 2 ^ k ≡ r))
 
--- Among the numbers of p digits none is nearer to the real than r: the midpoint of r and any w below r is at most the real, and the midpoint of r and any w
--- above r is at least the real. Where another number is as near as r, it is a neighbour of r, and r is the even one.
+-- Among the numbers of p digits none is nearer to the real than r: the midpoint of r and any w
+-- below r is at most the real, and the midpoint of r and any w above r is at least the real.
+-- Where another number is as near as r, it is a neighbour of r, and r is the even one.
 pub record Nearest (p : ℕ) (real : Real) (r : ℕ) : Type 0 where
   pub representable : Representable p r
   pub below : (w : ℕ) → Representable p w → w < r → AtMost (w + r) real
@@ -64,7 +66,8 @@ NearestDouble y s real = (r : ℕ) × HasValue y s r (2 ^ 1074) × Nearest 53 re
 
 -- ---- the nearest, computed
 
--- n with the d binary digits below it chosen from the highest down, each set where the number is then still at most the real
+-- n with the d binary digits below it chosen from the highest down, each set where the number
+-- is then still at most the real
 unfoldable pub floorFrom : Real → ℕ → ℕ → ℕ
 floorFrom real zero n = n
 floorFrom real (suc d) n = floorFrom real d (n + cond (isGe (real (n + 2 ^ d))) (2 ^ d) 0)
@@ -74,8 +77,9 @@ unfoldable pub floorOf : Real → ℕ → ℕ
 unfolding floorFrom
 floorOf real d = floorFrom real d 0
 
--- The exponent of the last place, in units, where p digits of the real's whole units are kept; and the significand in that place: the floor's p digits q, or
--- q + 1, by how the real compares with the midpoint of the two.
+-- The exponent of the last place, in units, where p digits of the real's whole units are kept;
+-- and the significand in that place: the floor's p digits q, or q + 1, by how the real
+-- compares with the midpoint of the two.
 unfoldable pub exponentOf : ℕ → Real → ℕ → ℕ
 unfolding floorOf size
 exponentOf p real d = size (floorOf real d / 2) - p

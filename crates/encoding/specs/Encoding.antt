@@ -1,4 +1,5 @@
--- A double's bit pattern as eight bytes, the highest first, and as sixteen hexadecimal digits with capital letters. Definitions only.
+-- A double's bit pattern as eight bytes, the highest first, and as sixteen hexadecimal digits
+-- with capital letters. Definitions only.
 use Prim.Native.Nat.{ℕ, zero, suc, _+_, _*_, _/_, _%_, _^_}
 use mathlib.Core.Bool.{cond}
 use mathlib.Core.List.{List, [], _∷_}
@@ -9,7 +10,8 @@ use lib.ListN.{drop, getD}
 -- the number of eight bytes, the highest first
 abbrev pub bigEndian : List ℕ → ℕ
 bigEndian b =
-    ((((((getD b 0 0 * 256 + getD b 1 0) * 256 + getD b 2 0) * 256 + getD b 3 0) * 256 + getD b 4 0) * 256 + getD b 5 0) * 256 + getD b 6 0) * 256 + getD b 7 0
+    ((((((getD b 0 0 * 256 + getD b 1 0) * 256 + getD b 2 0) * 256 + getD b 3 0) * 256 + getD b 4 0) * 256
+    + getD b 5 0) * 256 + getD b 6 0) * 256 + getD b 7 0
 
 -- the double of the eight bytes from `at` on; every NaN's pattern is the one NaN
 abbrev pub doubleAt : List ℕ → ℕ → Float

@@ -19,7 +19,9 @@ neg-nearest f s real d =
     written zero k = unfold odd neg in refl
     written (suc q) k = unfold odd neg in refl
 
-    picked : (b : Bool) (q k : ℕ) → cond b (odd (suc (prec f)) (not s) q k (low f)) (inf (not s)) ≡ neg (cond b (odd (suc (prec f)) s q k (low f)) (inf s))
+    picked : (b : Bool) (q k : ℕ)
+        → cond b (odd (suc (prec f)) (not s) q k (low f)) (inf (not s))
+        ≡ neg (cond b (odd (suc (prec f)) s q k (low f)) (inf s))
     picked true q k = written q k
     picked false q k = unfold neg in refl
 

@@ -13,7 +13,8 @@ use Rattle.roots.specs.List.{placed, placedAt, sortedFrom}
 use Rattle.doubles.proofs.CondLaws.{by-cases}
 
 -- what holds of any four values written out holds of an array of four
-by-values : (P : List Float → Type 0) → ((a b c d : Float) → P (a ∷ b ∷ c ∷ d ∷ [])) → (v : List Float) → length v ≡ 4 → P v
+by-values : (P : List Float → Type 0) → ((a b c d : Float) → P (a ∷ b ∷ c ∷ d ∷ [])) → (v : List Float) → length v ≡ 4
+    → P v
 by-values P h [] e = absurd (omega arith)
 by-values P h (a ∷ []) e = absurd (omega arith)
 by-values P h (a ∷ b ∷ []) e = absurd (omega arith)
@@ -27,12 +28,15 @@ abbrev pub withSecond : List Float → List Float
 withSecond v = cond (at v 1 <ᶠ at v 0) (at v 1 ∷ at v 0 ∷ at v 2 ∷ at v 3 ∷ []) v
 
 abbrev pub withThird : List Float → List Float
-withThird v = cond (at v 2 <ᶠ at v 0) (at v 2 ∷ at v 0 ∷ at v 1 ∷ at v 3 ∷ []) (cond (at v 2 <ᶠ at v 1) (at v 0 ∷ at v 2 ∷ at v 1 ∷ at v 3 ∷ []) v)
+withThird v =
+    cond (at v 2 <ᶠ at v 0) (at v 2 ∷ at v 0 ∷ at v 1 ∷ at v 3 ∷ [])
+    (cond (at v 2 <ᶠ at v 1) (at v 0 ∷ at v 2 ∷ at v 1 ∷ at v 3 ∷ []) v)
 
 abbrev pub withFourth : List Float → List Float
 withFourth v =
     cond (at v 3 <ᶠ at v 0) (at v 3 ∷ at v 0 ∷ at v 1 ∷ at v 2 ∷ [])
-    (cond (at v 3 <ᶠ at v 1) (at v 0 ∷ at v 3 ∷ at v 1 ∷ at v 2 ∷ []) (cond (at v 3 <ᶠ at v 2) (at v 0 ∷ at v 1 ∷ at v 3 ∷ at v 2 ∷ []) v))
+    (cond (at v 3 <ᶠ at v 1) (at v 0 ∷ at v 3 ∷ at v 1 ∷ at v 2 ∷ [])
+    (cond (at v 3 <ᶠ at v 2) (at v 0 ∷ at v 1 ∷ at v 3 ∷ at v 2 ∷ []) v))
 
 pub second-placed : (v : List Float) → length v ≡ 4 → placedAt 1 v ≡ withSecond v
 unfolding placedAt placed
@@ -48,20 +52,24 @@ fourth-placed : (v : List Float) → length v ≡ 4 → placedAt 3 v ≡ withFou
 unfolding placedAt placed
 fourth-placed =
     by-values (λ v. placedAt 3 v ≡ withFourth v)
-    (λ a b c d. by-cases (d <ᶠ a) (λ i. rw i) (λ i. by-cases (d <ᶠ b) (λ j. rw (i, j)) (λ j. by-cases (d <ᶠ c) (λ k. rw (i, j, k)) (λ k. rw (i, j, k)))))
+    (λ a b c d. by-cases (d <ᶠ a) (λ i. rw i)
+    (λ i. by-cases (d <ᶠ b) (λ j. rw (i, j)) (λ j. by-cases (d <ᶠ c) (λ k. rw (i, j, k)) (λ k. rw (i, j, k)))))
 
 -- the fourth value before the first, the second or the third, or where it is
 module _ (v : List Float) (four : length v ≡ 4) where
   pub fourth-first : (at v 3 <ᶠ at v 0) ≡ true → at v 3 ∷ at v 0 ∷ at v 1 ∷ at v 2 ∷ [] ≡ placedAt 3 v
   fourth-first i = rw (fourth-placed v four, i)
 
-  pub fourth-second : (at v 3 <ᶠ at v 0) ≡ false → (at v 3 <ᶠ at v 1) ≡ true → at v 0 ∷ at v 3 ∷ at v 1 ∷ at v 2 ∷ [] ≡ placedAt 3 v
+  pub fourth-second : (at v 3 <ᶠ at v 0) ≡ false → (at v 3 <ᶠ at v 1) ≡ true
+      → at v 0 ∷ at v 3 ∷ at v 1 ∷ at v 2 ∷ [] ≡ placedAt 3 v
   fourth-second i j = rw (fourth-placed v four, i, j)
 
-  pub fourth-third : (at v 3 <ᶠ at v 0) ≡ false → (at v 3 <ᶠ at v 1) ≡ false → (at v 3 <ᶠ at v 2) ≡ true → at v 0 ∷ at v 1 ∷ at v 3 ∷ at v 2 ∷ [] ≡ placedAt 3 v
+  pub fourth-third : (at v 3 <ᶠ at v 0) ≡ false → (at v 3 <ᶠ at v 1) ≡ false → (at v 3 <ᶠ at v 2) ≡ true
+      → at v 0 ∷ at v 1 ∷ at v 3 ∷ at v 2 ∷ [] ≡ placedAt 3 v
   fourth-third i j k = rw (fourth-placed v four, i, j, k)
 
-  pub fourth-last : (at v 3 <ᶠ at v 0) ≡ false → (at v 3 <ᶠ at v 1) ≡ false → (at v 3 <ᶠ at v 2) ≡ false → v ≡ placedAt 3 v
+  pub fourth-last : (at v 3 <ᶠ at v 0) ≡ false → (at v 3 <ᶠ at v 1) ≡ false → (at v 3 <ᶠ at v 2) ≡ false
+      → v ≡ placedAt 3 v
   fourth-last i j k = rw (fourth-placed v four, i, j, k)
 
 -- ---- the reading order, one root after the other
@@ -72,7 +80,8 @@ length-placed x [] = refl
 length-placed x (y ∷ ys) = by-cases (x <ᶠ y) (λ i. rw i) (λ i. rw i (ap suc (length-placed x ys)))
 
 -- the root after n that are in order
-next-placed : (l : List Float) (x : Float) (rest : List Float) (n : ℕ) → length l ≡ n → placedAt n (l ++ x ∷ rest) ≡ placed x l ++ rest
+next-placed : (l : List Float) (x : Float) (rest : List Float) (n : ℕ) → length l ≡ n
+    → placedAt n (l ++ x ∷ rest) ≡ placed x l ++ rest
 unfolding placedAt
 next-placed l x rest n e = rw (getD-at l x rest nan n e, take-at l (x ∷ rest) n e, past)
   where
@@ -90,19 +99,23 @@ pub two-sorted : (n : ℕ) → n ≡ 2 → (v : List Float) → length v ≡ 4 �
 unfolding sortedFrom placedAt placed
 two-sorted n i v e = rw i (by-values (λ v. sortedFrom [] (take 2 v) ++ drop 2 v ≡ placedAt 1 v) (λ a b c d. refl) v e)
 
-pub three-sorted : (n : ℕ) → n ≡ 3 → (v : List Float) → length v ≡ 4 → sortedFrom [] (take n v) ++ drop n v ≡ placedAt 2 (placedAt 1 v)
+pub three-sorted : (n : ℕ) → n ≡ 3 → (v : List Float) → length v ≡ 4
+    → sortedFrom [] (take n v) ++ drop n v ≡ placedAt 2 (placedAt 1 v)
 unfolding sortedFrom placedAt placed
 three-sorted n i v e =
     rw i
     (by-values (λ v. sortedFrom [] (take 3 v) ++ drop 3 v ≡ placedAt 2 (placedAt 1 v))
     (λ a b c d. sym (next-placed (placed b (placed a [])) c (d ∷ []) 2 (length-placed b (placed a [])))) v e)
 
-pub four-sorted : (n : ℕ) → 4 ≤ n → (v : List Float) → length v ≡ 4 → sortedFrom [] (take n v) ++ drop n v ≡ placedAt 3 (placedAt 2 (placedAt 1 v))
+pub four-sorted : (n : ℕ) → 4 ≤ n → (v : List Float) → length v ≡ 4
+    → sortedFrom [] (take n v) ++ drop n v ≡ placedAt 3 (placedAt 2 (placedAt 1 v))
 four-sorted n h v e =
     rw (take-all n v (omega arith), drop-of-length-le v {i = n} (omega arith))
-    (by-values (λ v. sortedFrom [] v ++ [] ≡ placedAt 3 (placedAt 2 (placedAt 1 v))) (λ a b c d. unfold sortedFrom placedAt placed in written a b c d) v e)
+    (by-values (λ v. sortedFrom [] v ++ [] ≡ placedAt 3 (placedAt 2 (placedAt 1 v)))
+    (λ a b c d. unfold sortedFrom placedAt placed in written a b c d) v e)
   where
-    written : (a b c d : Float) → placed d (placed c (placed b (a ∷ []))) ++ [] ≡ placedAt 3 (placedAt 2 (placed b (a ∷ []) ++ c ∷ d ∷ []))
+    written : (a b c d : Float)
+        → placed d (placed c (placed b (a ∷ []))) ++ [] ≡ placedAt 3 (placedAt 2 (placed b (a ∷ []) ++ c ∷ d ∷ []))
     written a b c d =
         let two = placed b (a ∷ []) in
         let e : length two ≡ 2 = length-placed b (a ∷ []) in

@@ -43,4 +43,5 @@ pub quartic-made : (a b c d : Float) → Made (quarticOf a b c d)
 unfolding quarticOf
 quartic-made a b c d =
     cond-of Made (absᶠ d <ᶠ eps && absᶠ c <ᶠ eps) (made-quadratic a b eps (made-inserted 0ᶠ made-none))
-    (cond-of Made (absᶠ d <ᶠ eps && absᶠ a <ᶠ eps && absᶠ b <ᶠ eps) (made-inserted (-ᶠ cbrtOf c) (made-inserted 0ᶠ made-none)) (made-by-factors a b c d))
+    (cond-of Made (absᶠ d <ᶠ eps && absᶠ a <ᶠ eps && absᶠ b <ᶠ eps)
+    (made-inserted (-ᶠ cbrtOf c) (made-inserted 0ᶠ made-none)) (made-by-factors a b c d))

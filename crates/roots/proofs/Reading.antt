@@ -30,7 +30,8 @@ held-length l h = length-take-le (l .count) (l .values) (omega arith)
 -- ---- insertion
 
 module _ (l : Roots) (x : Float) where
-  appended : AtLeastZero x → l .count < 4 → inserted l x ≡ record { values = set (l .values) (l .count) x; count = l .count + 1 }
+  appended : AtLeastZero x → l .count < 4
+      → inserted l x ≡ record { values = set (l .values) (l .count) x; count = l .count + 1 }
   unfolding inserted
   appended h r = rw (h, lt-ltb (l .count) 4 r)
 
@@ -51,14 +52,24 @@ module _ (l : Roots) (x : Float) (later : List Float) (h : Held l) where
   step-appended : AtLeastZero x → l .count < 4 → Step l x later
   step-appended i r =
       record {
-        held = rw (appended l x i r) (record { places = length-set (l .values) (l .count) x ∙ h .places; room = omega arith });
+        held = rw (appended l x i r)
+            (record { places = length-set (l .values) (l .count) x ∙ h .places; room = omega arith });
         roots =
-            rw (appended l x i r, add-one (l .count), take-suc-set (l .values) (l .count) x (omega arith), append-assoc (rootsOf l) (x ∷ []) (nonNegative later))
+            rw (
+              appended l x i r,
+              add-one (l .count),
+              take-suc-set (l .values) (l .count) x (omega arith),
+              append-assoc (rootsOf l) (x ∷ []) (nonNegative later),
+            )
             (unfold nonNegative in rw i);
       }
 
   step-full : AtLeastZero x → 4 ≤ l .count → Step l x later
-  step-full i r = record { held = rw (full l x r) h; roots = rw (full l x r) (first-four (nonNegative later) ∙ sym (first-four (nonNegative (x ∷ later)))) }
+  step-full i r =
+      record {
+        held = rw (full l x r) h;
+        roots = rw (full l x r) (first-four (nonNegative later) ∙ sym (first-four (nonNegative (x ∷ later))));
+      }
     where
       first-four : (rest : List Float) → take 4 (rootsOf l ++ rest) ≡ rootsOf l
       first-four rest = take-at (rootsOf l) rest 4 (held-length l h ∙ omega arith)
@@ -67,11 +78,18 @@ module _ (l : Roots) (x : Float) (later : List Float) (h : Held l) where
   step-left-out i = record { held = rw (left-out l x i) h; roots = rw (left-out l x i) (unfold nonNegative in rw i) }
 
   step : Step l x later
-  step = by-cases (0ᶠ ≤ᶠ x) (λ i. by-cases (ltb (l .count) 4) (λ r. step-appended i (ltb-true (l .count) 4 r)) (λ r. step-full i (ltb-false (l .count) 4 r))) step-left-out
+  step = by-cases (0ᶠ ≤ᶠ x)
+      (λ i. by-cases (ltb (l .count) 4) (λ r. step-appended i (ltb-true (l .count) 4 r))
+      (λ r. step-full i (ltb-false (l .count) 4 r))) step-left-out
 
-insertions : (xs : List Float) (l : Roots) → Held l → Held (insertedAll l xs) × (rootsOf (insertedAll l xs) ≡ take 4 (rootsOf l ++ nonNegative xs))
+insertions : (xs : List Float) (l : Roots) → Held l
+    → Held (insertedAll l xs) × (rootsOf (insertedAll l xs) ≡ take 4 (rootsOf l ++ nonNegative xs))
 unfolding insertedAll
-insertions [] l h = (h, unfold nonNegative in (rw (append-nil (rootsOf l)) (sym (take-all 4 (rootsOf l) (omega (arith, held-length l h))))))
+insertions [] l h = (
+  h,
+  unfold nonNegative in
+      (rw (append-nil (rootsOf l)) (sym (take-all 4 (rootsOf l) (omega (arith, held-length l h))))),
+)
 insertions (x ∷ xs) l h =
     let s = step l x xs h in
     let i = insertions xs (inserted l x) (s .held) in
@@ -98,7 +116,9 @@ kept-members (x ∷ xs) = by-cases (0ᶠ ≤ᶠ x) (λ i. rw i (add i (kept-memb
 
 reading : (l : Roots) → Held l → rootsOf (ascendingOf l) ≡ sortedFrom [] (rootsOf l)
 unfolding ascendingOf
-reading l h = take-at (sortedFrom [] (rootsOf l)) (drop (l .count) (l .values)) (l .count) (omega (arith, sorted-length [] (rootsOf l), held-length l h))
+reading l h =
+    take-at (sortedFrom [] (rootsOf l)) (drop (l .count) (l .values)) (l .count)
+    (omega (arith, sorted-length [] (rootsOf l), held-length l h))
 
 module _ (xs : List Float) where
   members : Members (rootsOf (insertedAll noRoots xs))
@@ -111,6 +131,10 @@ module _ (xs : List Float) where
   pub reading-ascends : Ascending (rootsOf (ascendingOf (insertedAll noRoots xs)))
   reading-ascends = rw read (sorted-ascends [] (rootsOf (insertedAll noRoots xs)) empty members none)
 
-  -- Read are the roots of the list, equal ones in the order of insertion: those equal to a v at least 0 are the same, in the same order.
-  pub reading-stable : (v : Float) → AtLeastZero v → equalTo v (rootsOf (ascendingOf (insertedAll noRoots xs))) ≡ equalTo v (rootsOf (insertedAll noRoots xs))
-  reading-stable v hv = ap (equalTo v) read ∙ sorted-stable v [] (rootsOf (insertedAll noRoots xs)) hv empty members none ∙ (unfold equalTo in refl)
+  -- Read are the roots of the list, equal ones in the order of insertion: those equal to any v
+  -- are the same, in the same order.
+  pub reading-stable : (v : Float)
+      → equalTo v (rootsOf (ascendingOf (insertedAll noRoots xs))) ≡ equalTo v (rootsOf (insertedAll noRoots xs))
+  reading-stable v =
+      ap (equalTo v) read ∙ sorted-stable v [] (rootsOf (insertedAll noRoots xs)) empty members none
+      ∙ (unfold equalTo in refl)

@@ -25,14 +25,17 @@ record AtMostOne (t : Float) : Type 0 where
 
 min-one : (x : Float) → AtMostOne (minᶠ x 1ᶠ)
 unfolding minᶠ
-min-one x = by-cases (isNan x) (λ i. rw i itself) (λ i. by-cases (1ᶠ <ᶠ x) (λ j. rw (i, j) itself) (λ j. rw (i, j) (record { number = i; high = j })))
+min-one x = by-cases (isNan x) (λ i. rw i itself)
+    (λ i. by-cases (1ᶠ <ᶠ x) (λ j. rw (i, j) itself) (λ j. rw (i, j) (record { number = i; high = j })))
   where
     itself : AtMostOne 1ᶠ
     itself = unfold ofBits lt isNan in (record { number = refl; high = refl })
 
 max-minus-one : (x : Float) → AtMostOne x → InRange (maxᶠ x (-ᶠ 1ᶠ))
 unfolding maxᶠ
-max-minus-one x h = by-cases (x <ᶠ -ᶠ 1ᶠ) (λ i. rw (h .number, i) itself) (λ i. rw (h .number, i) (record { number = h .number; low = i; high = h .high }))
+max-minus-one x h =
+    by-cases (x <ᶠ -ᶠ 1ᶠ) (λ i. rw (h .number, i) itself)
+    (λ i. rw (h .number, i) (record { number = h .number; low = i; high = h .high }))
   where
     itself : InRange (-ᶠ 1ᶠ)
     itself = unfold ofBits neg lt isNan in (record { number = refl; low = refl; high = refl })

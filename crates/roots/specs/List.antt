@@ -14,7 +14,8 @@ noRoots = record { values = 0ᶠ ∷ 0ᶠ ∷ 0ᶠ ∷ 0ᶠ ∷ []; count = 0 }
 
 -- `insert`: appends a value at least 0, so -0 but no NaN; a full list comes back unchanged
 unfoldable pub inserted : Roots → Float → Roots
-inserted l x = cond (0ᶠ ≤ᶠ x && ltb (l .count) 4) (record { values = set (l .values) (l .count) x; count = l .count + 1 }) l
+inserted l x =
+    cond (0ᶠ ≤ᶠ x && ltb (l .count) 4) (record { values = set (l .values) (l .count) x; count = l .count + 1 }) l
 
 -- x put among roots that ascend, after those that are at most x
 unfoldable pub placed : Float → List Float → List Float
@@ -25,7 +26,8 @@ placed x (y ∷ ys) = cond (x <ᶠ y) (x ∷ y ∷ ys) (y ∷ placed x ys)
 unfoldable pub placedAt : ℕ → List Float → List Float
 placedAt i d = placed (at d i) (take i d) ++ drop (suc i) d
 
--- the roots of a list ascending, where those of `done` do so already; an equal root comes after those inserted before it
+-- the roots of a list ascending, where those of `done` do so already; an equal root comes
+-- after those inserted before it
 unfoldable pub sortedFrom : List Float → List Float → List Float
 sortedFrom done [] = done
 sortedFrom done (x ∷ xs) = sortedFrom (placed x done) xs

@@ -16,7 +16,8 @@ use Rattle.roots.specs.Resolvent.{resolventOf}
 abbrev pub 16eps : Float
 16eps = ofBits binary64 0x4030_0000_0000_0000 *ᶠ eps
 
--- the list with the roots of x² + p x + q: -p / 2 where the discriminant is within the tolerance of 0, two where it is above 0
+-- the list with the roots of x² + p x + q: -p / 2 where the discriminant is within the
+-- tolerance of 0, two where it is above 0
 unfoldable pub withQuadratic : Roots → Float → Float → Float → Roots
 withQuadratic l p q tolerance =
     let d = p *ᶠ p -ᶠ 4ᶠ *ᶠ q in

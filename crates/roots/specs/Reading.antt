@@ -1,4 +1,5 @@
--- What the laws say of a list of roots with: insertions one after the other, and the order of reading. Definitions only.
+-- What the laws say of a list of roots with: insertions one after the other, and the order of
+-- reading. Definitions only.
 use mathlib.Core.Path.{_≡_}
 use mathlib.Core.Bool.{true, cond}
 use mathlib.Core.List.{List, [], _∷_}

@@ -1,4 +1,5 @@
--- `solve_resolvent` for any doubles, in the Rust's order of operations: the count, 1, 2 or 3, and the three numbers. Definitions only.
+-- `solve_resolvent` for any doubles, in the Rust's order of operations: the count, 1, 2 or 3,
+-- and the three numbers. Definitions only.
 use mathlib.Core.Bool.{cond}
 use mathlib.Core.List.{[], _∷_}
 use lib.Ieee.{Float, binary64, ofBits}

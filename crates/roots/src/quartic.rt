@@ -1,6 +1,7 @@
 // `solve_quart_monic_coeffs`: the roots of a quartic, by its two quadratic factors.
 ghost use mathlib.Core.Path.{_≡_};
-ghost use Rattle.roots.specs.Quartic.{withQuadratic, larger, largestZero, equalConstants, factorsOf, rootsByFactors, quarticOf};
+ghost use Rattle.roots.specs.Quartic.{withQuadratic, larger, largestZero, equalConstants, factorsOf};
+ghost use Rattle.roots.specs.Quartic.{rootsByFactors, quarticOf};
 use crate::list::Roots;
 use crate::resolvent::Zeros;
 use crate::resolvent::solve_resolvent;

@@ -15,8 +15,8 @@ const SIN_120: f64 = 0.8660254037844386;
 // 3.0_f64.sqrt()
 const SQRT_3: f64 = 1.7320508075688772;
 
-// With a count of 3 or 2 the three numbers are the zeros, for 2 with the last one twice. With 1 the first is the one real zero; the others are the real and the
-// imaginary part of a complex one.
+// With a count of 3 or 2 the three numbers are the zeros, for 2 with the last one twice. With 1 the first is the one
+// real zero; the others are the real and the imaginary part of a complex one.
 pub struct Zeros {
     pub x: [f64; 3],
     pub count: usize,
@@ -43,7 +43,7 @@ fn three_zeros(third: f64, q: f64, r: f64) -> Zeros
     ensures { λ z. ⌜ z ≡ threeZeros third q r ⌝ }
 {
     let q_sqrt = sqrt(q);
-    let pair = cosine_pair(clamped_ratio(q, q_sqrt, r));
+    let pair = third_angle_pair(clamped_ratio(q, q_sqrt, r));
     let factor = -2.0 * q_sqrt;
     let ux = pair.cos * factor;
     let uyi = pair.sin * factor;

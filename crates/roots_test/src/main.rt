@@ -1,5 +1,6 @@
-// Reads the coefficients of quartics, four big-endian doubles each, and writes a line for each: how many roots it has that are at least 0, and the roots in reading
-// order by the hexadecimal digits of their bits, as the oracle's program `quartics` has them. oracle/tools/make_stored.py makes the stored input and output.
+// Reads the coefficients of quartics, four big-endian doubles each, and writes a line for each: how many roots it has
+// that are at least 0, and the roots in reading order by the hexadecimal digits of their bits, as the oracle's program
+// `quartics` has them. oracle/tools/make_stored.py makes the stored input and output.
 ghost use mathlib.Core.Path.{_≡_};
 ghost use Prim.Native.Nat.{_+_, _≤_};
 ghost use lib.ListN.{length, take};

@@ -15,7 +15,8 @@ pub record Products (r : ℕ) : Type 0 where
   pub high : r / 2 ^ 26 * (r / 2 ^ 26) ≤ (2 ^ 27 - 1) * (2 ^ 27 - 1)
   pub cross : r / 2 ^ 26 * (r % 2 ^ 26) ≤ (2 ^ 27 - 1) * (2 ^ 26 - 1)
   pub low : r % 2 ^ 26 * (r % 2 ^ 26) ≤ (2 ^ 26 - 1) * (2 ^ 26 - 1)
-  pub square : r * r ≡ r / 2 ^ 26 * (r / 2 ^ 26) * 2 ^ 52 + r / 2 ^ 26 * (r % 2 ^ 26) * 2 ^ 27 + r % 2 ^ 26 * (r % 2 ^ 26)
+  pub square : r * r
+      ≡ r / 2 ^ 26 * (r / 2 ^ 26) * 2 ^ 52 + r / 2 ^ 26 * (r % 2 ^ 26) * 2 ^ 27 + r % 2 ^ 26 * (r % 2 ^ 26)
 
 pub products : (r : ℕ) → r < 2 ^ 53 → Products r
 products r h =
@@ -49,9 +50,11 @@ wrapped a b e = omega arith
 rearranged : (a b : ℕ) → a ≡ b → a % 2 ^ 64 ≡ b % 2 ^ 64
 rearranged a b e = ap (λ (x : ℕ). x % 2 ^ 64) e
 
--- ---- from the wrapped differences to the excess z. H, X and L are the three products, S the square, and U is X / 2 ^ 25
+-- ---- from the wrapped differences to the excess z. H, X and L are the three products, S the
+-- square, and U is X / 2 ^ 25
 
-module _ (H U top rest m e : ℕ) (top-wraps : (top + H) % 2 ^ 64 ≡ m) (rest-wraps : (rest + U) % 2 ^ 64 ≡ top) (e-wraps : e ≡ (rest + 8) % 2 ^ 64) where
+module _ (H U top rest m e : ℕ) (top-wraps : (top + H) % 2 ^ 64 ≡ m) (rest-wraps : (rest + U) % 2 ^ 64 ≡ top)
+    (e-wraps : e ≡ (rest + 8) % 2 ^ 64) where
   -- e is 8 more than m less the square's upper part
   tops : (e + (H + U)) % 2 ^ 64 ≡ (m + 8) % 2 ^ 64
   tops =
@@ -61,7 +64,9 @@ module _ (H U top rest m e : ℕ) (top-wraps : (top + H) % 2 ^ 64 ≡ m) (rest-w
       ∙ rearranged (top + (H + 8)) (top + H + 8) (omega arith)
       ∙ plus (top + H) m 8 (wrapped (top + H) m top-wraps)
 
-module _ (H X L top less v r z m : ℕ) (top-wraps : (top + H) % 2 ^ 64 ≡ m) (less-wraps : (less + X * 2 ^ 27 % 2 ^ 64) % 2 ^ 64 ≡ top * 2 ^ 52 % 2 ^ 64) (v-wraps : (v + L) % 2 ^ 64 ≡ less) (z-wraps : z ≡ (v + r) % 2 ^ 64) where
+module _ (H X L top less v r z m : ℕ) (top-wraps : (top + H) % 2 ^ 64 ≡ m)
+    (less-wraps : (less + X * 2 ^ 27 % 2 ^ 64) % 2 ^ 64 ≡ top * 2 ^ 52 % 2 ^ 64) (v-wraps : (v + L) % 2 ^ 64 ≡ less)
+    (z-wraps : z ≡ (v + r) % 2 ^ 64) where
   residue : (z + (H * 2 ^ 52 + X * 2 ^ 27 + L)) % 2 ^ 64 ≡ (m * 2 ^ 52 + r) % 2 ^ 64
   residue =
       sym (plus (v + r) z (H * 2 ^ 52 + X * 2 ^ 27 + L) (wrapped (v + r) z (sym z-wraps)))
@@ -125,10 +130,12 @@ module _ (a r z : ℕ) (r-most : r < 2 ^ 53) (x : Excess a r z) where
 
 -- ---- the verdict by the steps of the code
 
-same-residue : (z S A : ℕ) → z < 2 ^ 64 → (z + S) % 2 ^ 64 ≡ A % 2 ^ 64 → S ≤ A → A < S + 2 ^ 57 → (z + S ≡ A) × (z < 2 ^ 57)
+same-residue : (z S A : ℕ) → z < 2 ^ 64 → (z + S) % 2 ^ 64 ≡ A % 2 ^ 64 → S ≤ A → A < S + 2 ^ 57
+    → (z + S ≡ A) × (z < 2 ^ 57)
 same-residue z S A l e h g = let y : z + S ≡ A = omega arith in (y, omega arith)
 
-wrapped-residue : (z S A : ℕ) → z < 2 ^ 64 → (z + S) % 2 ^ 64 ≡ A % 2 ^ 64 → A < S → S < A + 2 ^ 57 → (z + S ≡ A + 2 ^ 64) × (2 ^ 63 < z)
+wrapped-residue : (z S A : ℕ) → z < 2 ^ 64 → (z + S) % 2 ^ 64 ≡ A % 2 ^ 64 → A < S → S < A + 2 ^ 57
+    → (z + S ≡ A + 2 ^ 64) × (2 ^ 63 < z)
 wrapped-residue z S A l e h g = let y : z + S ≡ A + 2 ^ 64 = omega arith in (y, omega arith)
 
 eight-more : (m : ℕ) → m < 2 ^ 54 → (m + 8) % 2 ^ 64 ≡ m + 8
@@ -138,15 +145,20 @@ pub residue-lt : (e x : ℕ) → e ≡ x % 2 ^ 64 → e < 2 ^ 64
 residue-lt e x h = omega arith
 
 module _ (m r top rest e : ℕ) (m-most : m < 2 ^ 54) (r-most : r < 2 ^ 53)
-    (top-wraps : (top + r / 2 ^ 26 * (r / 2 ^ 26)) % 2 ^ 64 ≡ m) (rest-wraps : (rest + r / 2 ^ 26 * (r % 2 ^ 26) / 2 ^ 25) % 2 ^ 64 ≡ top) (e-wraps : e ≡ (rest + 8) % 2 ^ 64) where
+    (top-wraps : (top + r / 2 ^ 26 * (r / 2 ^ 26)) % 2 ^ 64 ≡ m)
+    (rest-wraps : (rest + r / 2 ^ 26 * (r % 2 ^ 26) / 2 ^ 25) % 2 ^ 64 ≡ top)
+    (e-wraps : e ≡ (rest + 8) % 2 ^ 64) where
   p : Products r
   p = products r r-most
 
   together : (e + (r / 2 ^ 26 * (r / 2 ^ 26) + r / 2 ^ 26 * (r % 2 ^ 26) / 2 ^ 25)) % 2 ^ 64 ≡ m + 8
-  together = tops (r / 2 ^ 26 * (r / 2 ^ 26)) (r / 2 ^ 26 * (r % 2 ^ 26) / 2 ^ 25) top rest m e top-wraps rest-wraps e-wraps ∙ eight-more m m-most
+  together = tops (r / 2 ^ 26 * (r / 2 ^ 26))
+      (r / 2 ^ 26 * (r % 2 ^ 26) / 2 ^ 25) top rest m e top-wraps rest-wraps e-wraps ∙ eight-more m m-most
 
   -- over the products H, X and L and the square S
-  apart : (H X L S : ℕ) → H ≤ (2 ^ 27 - 1) * (2 ^ 27 - 1) → X ≤ (2 ^ 27 - 1) * (2 ^ 26 - 1) → L ≤ (2 ^ 26 - 1) * (2 ^ 26 - 1) → S ≡ H * 2 ^ 52 + X * 2 ^ 27 + L → (e + (H + X / 2 ^ 25)) % 2 ^ 64 ≡ m + 8 → e < 2 ^ 64 → 16 ≤ e
+  apart : (H X L S : ℕ) → H ≤ (2 ^ 27 - 1) * (2 ^ 27 - 1) → X ≤ (2 ^ 27 - 1) * (2 ^ 26 - 1)
+      → L ≤ (2 ^ 26 - 1) * (2 ^ 26 - 1) → S ≡ H * 2 ^ 52 + X * 2 ^ 27 + L → (e + (H + X / 2 ^ 25)) % 2 ^ 64 ≡ m + 8
+      → e < 2 ^ 64 → 16 ≤ e
       → (m * 2 ^ 52 + 3 * r < S) ⊎ (S + 3 * r + 2 < m * 2 ^ 52)
   apart H X L S h x l s t b g = elim (decLe (2 ^ 64) (e + (H + X / 2 ^ 25))) [
     | yes k ↦ inl (let y : m * 2 ^ 52 + 3 * r < S = omega arith in y)
@@ -154,23 +166,32 @@ module _ (m r top rest e : ℕ) (m-most : m < 2 ^ 54) (r-most : r < 2 ^ 53)
   ]
 
   pub far : 16 ≤ e → Unknown ≡ verdictOf (m * 2 ^ 52) r
-  far h = elim (apart (r / 2 ^ 26 * (r / 2 ^ 26)) (r / 2 ^ 26 * (r % 2 ^ 26)) (r % 2 ^ 26 * (r % 2 ^ 26)) (r * r) (p .high) (p .cross) (p .low) (p .square) together (residue-lt e (rest + 8) e-wraps) h) [
-    | inl l ↦ below-all (m * 2 ^ 52) l
-    | inr l ↦ is-above-all (m * 2 ^ 52) r l
-  ]
+  far h = elim (apart (r / 2 ^ 26 * (r / 2 ^ 26)) (r / 2 ^ 26 * (r % 2 ^ 26)) (r % 2 ^ 26 * (r % 2 ^ 26)) (r * r)
+      (p .high) (p .cross) (p .low) (p .square) together (residue-lt e (rest + 8) e-wraps) h) [
+        | inl l ↦ below-all (m * 2 ^ 52) l
+        | inr l ↦ is-above-all (m * 2 ^ 52) r l
+      ]
     where
       below-all : (a : ℕ) → a + 3 * r < r * r → Unknown ≡ verdictOf a r
       below-all a l = is-below-all a r (omega arith) (omega arith)
 
-  close : (H X L S : ℕ) → H ≤ (2 ^ 27 - 1) * (2 ^ 27 - 1) → X ≤ (2 ^ 27 - 1) * (2 ^ 26 - 1) → L ≤ (2 ^ 26 - 1) * (2 ^ 26 - 1) → S ≡ H * 2 ^ 52 + X * 2 ^ 27 + L → (e + (H + X / 2 ^ 25)) % 2 ^ 64 ≡ m + 8 → e < 16
+  close : (H X L S : ℕ) → H ≤ (2 ^ 27 - 1) * (2 ^ 27 - 1) → X ≤ (2 ^ 27 - 1) * (2 ^ 26 - 1)
+      → L ≤ (2 ^ 26 - 1) * (2 ^ 26 - 1) → S ≡ H * 2 ^ 52 + X * 2 ^ 27 + L → (e + (H + X / 2 ^ 25)) % 2 ^ 64 ≡ m + 8
+      → e < 16
       → (m * 2 ^ 52 + r < S + 2 ^ 57) × (S < m * 2 ^ 52 + r + 2 ^ 57)
   close H X L S h x l s t g = let y : e + (H + X / 2 ^ 25) ≡ m + 8 = omega arith in omega arith
 
-  module _ (near : e < 16) (less v z : ℕ) (less-wraps : (less + r / 2 ^ 26 * (r % 2 ^ 26) * 2 ^ 27 % 2 ^ 64) % 2 ^ 64 ≡ top * 2 ^ 52 % 2 ^ 64) (v-wraps : (v + r % 2 ^ 26 * (r % 2 ^ 26)) % 2 ^ 64 ≡ less) (z-wraps : z ≡ (v + r) % 2 ^ 64) where
+  module _ (near : e < 16) (less v z : ℕ)
+      (less-wraps : (less + r / 2 ^ 26 * (r % 2 ^ 26) * 2 ^ 27 % 2 ^ 64) % 2 ^ 64 ≡ top * 2 ^ 52 % 2 ^ 64)
+      (v-wraps : (v + r % 2 ^ 26 * (r % 2 ^ 26)) % 2 ^ 64 ≡ less) (z-wraps : z ≡ (v + r) % 2 ^ 64) where
     pub excess : Excess (m * 2 ^ 52) r z
     excess =
-        let c = close (r / 2 ^ 26 * (r / 2 ^ 26)) (r / 2 ^ 26 * (r % 2 ^ 26)) (r % 2 ^ 26 * (r % 2 ^ 26)) (r * r) (p .high) (p .cross) (p .low) (p .square) together near in
-        let same : (z + r * r) % 2 ^ 64 ≡ (m * 2 ^ 52 + r) % 2 ^ 64 = ap (λ (x : ℕ). (z + x) % 2 ^ 64) (p .square) ∙ residue (r / 2 ^ 26 * (r / 2 ^ 26)) (r / 2 ^ 26 * (r % 2 ^ 26)) (r % 2 ^ 26 * (r % 2 ^ 26)) top less v r z m top-wraps less-wraps v-wraps z-wraps in
+        let c = close (r / 2 ^ 26 * (r / 2 ^ 26)) (r / 2 ^ 26 * (r % 2 ^ 26)) (r % 2 ^ 26 * (r % 2 ^ 26)) (r * r)
+        (p .high) (p .cross) (p .low) (p .square) together near in
+        let same : (z + r * r) % 2 ^ 64 ≡ (m * 2 ^ 52 + r) % 2 ^ 64 =
+        ap (λ (x : ℕ). (z + x) % 2 ^ 64) (p .square)
+        ∙ residue (r / 2 ^ 26 * (r / 2 ^ 26)) (r / 2 ^ 26 * (r % 2 ^ 26))
+        (r % 2 ^ 26 * (r % 2 ^ 26)) top less v r z m top-wraps less-wraps v-wraps z-wraps in
         let most : z < 2 ^ 64 = residue-lt z (v + r) z-wraps in
         elim (decLe (r * r) (m * 2 ^ 52 + r)) [
           | yes h ↦ inl (same-residue z (r * r) (m * 2 ^ 52 + r) most same h (c .0))

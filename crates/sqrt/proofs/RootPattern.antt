@@ -1,7 +1,10 @@
--- The bit pattern of a double's square root, from the whole number nearest to the root of its significand. Assumes nothing.
+-- The bit pattern of a double's square root, from the whole number nearest to the root of its
+-- significand. Assumes nothing.
 use mathlib.Core.Path.{_≡_, sym, ap, _∙_, subst}
-use Prim.Native.Nat.{ℕ, zero, suc, _+_, _*_, _/_, _%_, _^_, _≤_, _<_, zero-le, compare, Ordering, Ordering·lt, Ordering·gt}
-use native.Mathlib.Nat.{zero-add, le-of-suc-le-suc, le-trans, le-of-eq, lt-of-lt-of-le, lt-of-le-of-lt, mul-assoc, mul-le-mul-right, mul-lt-mul-of-pos-right, lt-of-mul-lt-mul-right, mul-pos, pow-succ'}
+use Prim.Native.Nat.{ℕ, zero, suc, _+_, _*_, _/_, _%_, _^_, _≤_, _<_, zero-le, compare, Ordering, Ordering·lt}
+use Prim.Native.Nat.{Ordering·gt}
+use native.Mathlib.Nat.{zero-add, le-of-suc-le-suc, le-trans, le-of-eq, lt-of-lt-of-le, lt-of-le-of-lt, mul-assoc}
+use native.Mathlib.Nat.{mul-le-mul-right, mul-lt-mul-of-pos-right, lt-of-mul-lt-mul-right, mul-pos, pow-succ'}
 use native.Mathlib.Omega.{arith}
 use mathlib.Core.Bool.{false}
 use lib.Dec.{T}
@@ -23,11 +26,14 @@ abbrev rootOf : ℕ → Real
 rootOf n = sqrtReal (2 ^ 1075) n (2 ^ 1074)
 
 in-units : (n j : ℕ) → rootOf n j ≡ compare (n * 2 ^ 1076) (j * j)
-in-units n j = ap (λ (x : ℕ). compare x (j * j * 2 ^ 1074)) (sym (mul-assoc n (2 ^ 1076) (2 ^ 1074))) ∙ compare-scaled (2 ^ 1074) (n * 2 ^ 1076) (j * j) (pow-pos 1074)
+in-units n j =
+    ap (λ (x : ℕ). compare x (j * j * 2 ^ 1074)) (sym (mul-assoc n (2 ^ 1076) (2 ^ 1074)))
+    ∙ compare-scaled (2 ^ 1074) (n * 2 ^ 1076) (j * j) (pow-pos 1074)
 
 -- ---- the root of n units is √a in the last place 2 ^ k, where √a has 53 digits
 
-module _ (n a k : ℕ) (same : n * 2 ^ 1076 ≡ a * (2 ^ suc k * 2 ^ suc k)) (least : 2 ^ 104 ≤ a) (most : a < 2 ^ 106) (k-most : k ≤ 1533) where
+module _ (n a k : ℕ) (same : n * 2 ^ 1076 ≡ a * (2 ^ suc k * 2 ^ suc k)) (least : 2 ^ 104 ≤ a) (most : a < 2 ^ 106)
+    (k-most : k ≤ 1533) where
   out : (j u : ℕ) → j * u * (j * u) ≡ j * j * (u * u)
   out j u = omega arith
 
@@ -41,7 +47,8 @@ module _ (n a k : ℕ) (same : n * 2 ^ 1076 ≡ a * (2 ^ suc k * 2 ^ suc k)) (le
   at-half : (j : ℕ) → rootOf n (j * 2 ^ k) ≡ compare (4 * a) (j * j)
   at-half j =
       in-units n (j * 2 ^ k)
-      ∙ ap (λ (x : ℕ). compare x (j * 2 ^ k * (j * 2 ^ k))) (same ∙ ap (λ (x : ℕ). a * (x * x)) (pow-succ' 2 k) ∙ quadruple a (2 ^ k))
+      ∙ ap (λ (x : ℕ). compare x (j * 2 ^ k * (j * 2 ^ k)))
+      (same ∙ ap (λ (x : ℕ). a * (x * x)) (pow-succ' 2 k) ∙ quadruple a (2 ^ k))
       ∙ ap (λ (x : ℕ). compare (4 * a * (2 ^ k * 2 ^ k)) x) (out j (2 ^ k))
       ∙ compare-scaled (2 ^ k * 2 ^ k) (4 * a) (j * j) (mul-pos (pow-pos k) (pow-pos k))
     where
@@ -49,7 +56,11 @@ module _ (n a k : ℕ) (same : n * 2 ^ 1076 ≡ a * (2 ^ suc k * 2 ^ suc k)) (le
       quadruple a u = omega arith
 
   bounded : Bounded (rootOf n) 1600
-  bounded = sqrt-double-bounded n (2 ^ 1074) (pow-pos 1074) (lt-of-mul-lt-mul-right (2 ^ 1076) (lt-of-le-of-lt (le-of-eq same) (lt-of-lt-of-le (mul-lt-mul-of-pos-right most (mul-pos (pow-pos (suc k)) (pow-pos (suc k)))) (le-trans (le-of-eq powers) (pow-mono (let z : 106 + (suc k + suc k) ≤ 3174 = omega arith in z))))))
+  bounded = sqrt-double-bounded n (2 ^ 1074) (pow-pos 1074)
+      (lt-of-mul-lt-mul-right (2 ^ 1076)
+      (lt-of-le-of-lt (le-of-eq same)
+      (lt-of-lt-of-le (mul-lt-mul-of-pos-right most (mul-pos (pow-pos (suc k)) (pow-pos (suc k))))
+      (le-trans (le-of-eq powers) (pow-mono (let z : 106 + (suc k + suc k) ≤ 3174 = omega arith in z))))))
     where
       powers : 2 ^ 106 * (2 ^ suc k * 2 ^ suc k) ≡ 2 ^ (106 + (suc k + suc k))
       powers = ap (λ (x : ℕ). 2 ^ 106 * x) (sym (pow-add 2 (suc k) (suc k))) ∙ sym (pow-add 2 106 (suc k + suc k))
@@ -73,12 +84,15 @@ module _ (n a k : ℕ) (same : n * 2 ^ 1076 ≡ a * (2 ^ suc k * 2 ^ suc k)) (le
   nearest-units (suc j) h =
       nearest-of-midpoints binary64 false (rootOf n) 1600 bounded j k start end
       (at-half (2 * j + 1) ∙ said Ordering·gt (4 * a) ((2 * j + 1) * (2 * j + 1)) (let g = h .below in omega arith))
-      (at-half (2 * suc j + 1) ∙ said Ordering·lt (4 * a) ((2 * suc j + 1) * (2 * suc j + 1)) (let g = h .above in omega arith))
+      (at-half (2 * suc j + 1)
+      ∙ said Ordering·lt (4 * a) ((2 * suc j + 1) * (2 * suc j + 1)) (let g = h .above in omega arith))
 
   small : (r : ℕ) → r ≤ 2 ^ 53 → r * 2 ^ k < 2 ^ (1074 + 1024)
-  small r h = lt-of-le-of-lt (mul-le-mul-right (2 ^ k) h) (lt-of-le-of-lt (le-of-eq (sym (pow-add 2 53 k))) (pow-lt (let z : 53 + k < 1074 + 1024 = omega arith in z)))
+  small r h = lt-of-le-of-lt (mul-le-mul-right (2 ^ k) h)
+      (lt-of-le-of-lt (le-of-eq (sym (pow-add 2 53 k))) (pow-lt (let z : 53 + k < 1074 + 1024 = omega arith in z)))
 
-  nearest-pattern : (r : ℕ) → NearestRoot a r → ofBits binary64 (k * 2 ^ 52 + r) ≡ nearestTo binary64 false (rootOf n) 1600
+  nearest-pattern : (r : ℕ) → NearestRoot a r
+      → ofBits binary64 (k * 2 ^ 52 + r) ≡ nearestTo binary64 false (rootOf n) 1600
   nearest-pattern r h =
       ap (ofBits binary64) (sym (zero-add (k * 2 ^ 52 + r)))
       ∙ pattern-of-units binary64 r k (nearest-normal r h) (nearest-fits r h) false (small r (nearest-fits r h))
@@ -86,21 +100,28 @@ module _ (n a k : ℕ) (same : n * 2 ^ 1076 ≡ a * (2 ^ suc k * 2 ^ suc k)) (le
 
 -- ---- for the pattern b: an odd exponent leaves a factor 2 with the significand
 
-pub with-parity : (significand odd : ℕ) → 2 ^ 52 ≤ significand → significand < 2 ^ 53 → odd < 2 → (2 ^ 52 ≤ significand * 2 ^ odd) × (significand * 2 ^ odd < 2 ^ 54)
+pub with-parity : (significand odd : ℕ) → 2 ^ 52 ≤ significand → significand < 2 ^ 53 → odd < 2
+    → (2 ^ 52 ≤ significand * 2 ^ odd) × (significand * 2 ^ odd < 2 ^ 54)
 with-parity significand zero f g h = omega arith
 with-parity significand (suc zero) f g h = omega arith
 with-parity significand (suc (suc r)) f g h = absurd (let z : ⊥ = omega arith in z)
 
 module _ (b significand exponent : ℕ) (n : Normalized b significand exponent) where
   pub radicand-bounds : (2 ^ 52 ≤ significand * 2 ^ (exponent % 2)) × (significand * 2 ^ (exponent % 2) < 2 ^ 54)
-  radicand-bounds = with-parity significand (exponent % 2) (n .normal) (n .fits) (let z : exponent % 2 < 2 = omega arith in z)
+  radicand-bounds =
+      with-parity significand (exponent % 2) (n .normal) (n .fits) (let z : exponent % 2 < 2 = omega arith in z)
 
-  same-value : patternUnits b * 2 ^ 1076 ≡ significand * 2 ^ (exponent % 2) * 2 ^ 52 * (2 ^ suc (exponent / 2) * 2 ^ suc (exponent / 2))
+  same-value : patternUnits b * 2 ^ 1076
+      ≡ significand * 2 ^ (exponent % 2) * 2 ^ 52 * (2 ^ suc (exponent / 2) * 2 ^ suc (exponent / 2))
   same-value =
       let h = exponent / 2 in
       ap (λ (x : ℕ). patternUnits b * x) (pow-add 2 1022 54)
       ∙ sym (mul-assoc (patternUnits b) (2 ^ 1022) (2 ^ 54))
-      ∙ ap (λ (x : ℕ). x * 2 ^ 54) (sym (n .value) ∙ ap (λ (x : ℕ). significand * x) (ap (λ (x : ℕ). 2 ^ x) (let z : exponent ≡ exponent % 2 + (h + h) = omega arith in z) ∙ pow-add 2 (exponent % 2) (h + h) ∙ ap (λ (x : ℕ). 2 ^ (exponent % 2) * x) (pow-add 2 h h)))
+      ∙ ap (λ (x : ℕ). x * 2 ^ 54)
+      (sym (n .value)
+      ∙ ap (λ (x : ℕ). significand * x)
+      (ap (λ (x : ℕ). 2 ^ x) (let z : exponent ≡ exponent % 2 + (h + h) = omega arith in z)
+      ∙ pow-add 2 (exponent % 2) (h + h) ∙ ap (λ (x : ℕ). 2 ^ (exponent % 2) * x) (pow-add 2 h h)))
       ∙ regroup significand (2 ^ (exponent % 2)) (2 ^ h)
       ∙ ap (λ (x : ℕ). significand * 2 ^ (exponent % 2) * 2 ^ 52 * (x * x)) (sym (pow-succ' 2 h))
     where
@@ -108,9 +129,12 @@ module _ (b significand exponent : ℕ) (n : Normalized b significand exponent) 
       regroup d o u = omega arith
 
   units-pos : 0 < patternUnits b
-  units-pos = first-pos (patternUnits b) (2 ^ 1022) (lt-of-lt-of-le (mul-pos (let f = n .normal in let z : 0 < significand = omega arith in z) (pow-pos exponent)) (le-of-eq (n .value)))
+  units-pos = first-pos (patternUnits b) (2 ^ 1022)
+      (lt-of-lt-of-le (mul-pos (let f = n .normal in let z : 0 < significand = omega arith in z) (pow-pos exponent))
+      (le-of-eq (n .value)))
 
-  module _ (finite : b < 0x7ff0_0000_0000_0000) (r : ℕ) (h : NearestRoot (significand * 2 ^ (exponent % 2) * 2 ^ 52) r) where
+  module _ (finite : b < 0x7ff0_0000_0000_0000) (r : ℕ)
+      (h : NearestRoot (significand * 2 ^ (exponent % 2) * 2 ^ 52) r) where
     a-least : 2 ^ 104 ≤ significand * 2 ^ (exponent % 2) * 2 ^ 52
     a-least = let z = radicand-bounds .0 in omega arith
 
@@ -121,9 +145,12 @@ module _ (b significand exponent : ℕ) (n : Normalized b significand exponent) 
     half-most = let z = n .most in omega arith
 
     pub root-most : r ≤ 2 ^ 53
-    root-most = nearest-fits (patternUnits b) (significand * 2 ^ (exponent % 2) * 2 ^ 52) (exponent / 2) same-value a-least a-most half-most r h
+    root-most = nearest-fits (patternUnits b) (significand * 2 ^ (exponent % 2) * 2 ^ 52)
+        (exponent / 2) same-value a-least a-most half-most r h
 
     pub root-is : ofBits binary64 (exponent / 2 * 2 ^ 52 + r) ≡ sqrtOf (ofBits binary64 b)
     root-is =
-        nearest-pattern (patternUnits b) (significand * 2 ^ (exponent % 2) * 2 ^ 52) (exponent / 2) same-value a-least a-most half-most r h
-        ∙ sym (sqrt-of-value (ofBits binary64 b) (patternUnits b) (2 ^ 1074) (pattern-value false b b finite (sym (zero-add b))) units-pos (pow-pos 1074))
+        nearest-pattern (patternUnits b) (significand * 2 ^ (exponent % 2) * 2 ^ 52)
+        (exponent / 2) same-value a-least a-most half-most r h
+        ∙ sym (sqrt-of-value (ofBits binary64 b) (patternUnits b) (2 ^ 1074)
+        (pattern-value false b b finite (sym (zero-add b))) units-pos (pow-pos 1074))

@@ -8,4 +8,5 @@ use Rattle.elementary.specs.Functions.{sqrtOf}
 
 pub at-nan : (x : Float) → ne x x ≡ true → x ≡ sqrtOf x
 unfolding sqrtOf
-at-nan x h = let e : x ≡ nan = differs-from-itself x (subst T (sym h) tt) in subst (λ (y : Float). y ≡ sqrtOf y) (sym e) refl
+at-nan x h =
+    let e : x ≡ nan = differs-from-itself x (subst T (sym h) tt) in subst (λ (y : Float). y ≡ sqrtOf y) (sym e) refl

@@ -1,4 +1,5 @@
--- The verdict on a candidate r by the place of a among the squares of the midpoints, and what a verdict says. Assumes nothing.
+-- The verdict on a candidate r by the place of a among the squares of the midpoints, and what
+-- a verdict says. Assumes nothing.
 use mathlib.Core.Path.{_≡_, refl, sym, ap, ap₂, _∙_, subst}
 use Prim.Native.Nat.{ℕ, zero, suc, _+_, _-_, _*_, _≤_, _<_}
 use native.Mathlib.Omega.{arith}
@@ -7,7 +8,7 @@ use lib.Dec.{T, leb, ltb, ltb→lt, leb→le}
 use lib.Ieee.Fits.{and-l, and-r}
 use borrow.Author.Tests.{lt-ltb, le-ltb, le-leb, lt-leb}
 use Rattle.sqrt.specs.Roots.{NearestRoot, isNearestRoot}
-use Rattle.sqrt.specs.Verdicts.{verdictOf}
+use Rattle.sqrt.specs.Verdicts.{verdictOf, Says}
 use Rattle.sqrt.specs.declared.certificate.Verdict.{Verdict}
 use Rattle.sqrt.specs.declared.certificate.Verdict.the-variants.{Nearest, TooLow, TooHigh, Unknown}
 
@@ -29,15 +30,20 @@ large-at a r h = ap (λ (x : Bool). ltb (r * r) (a + r) && x) (lt-leb a (r * r +
 -- ---- the verdict
 
 -- by the three tests
-verdict-by : (a r : ℕ) (x y z : Bool) → isNearestRoot a r ≡ x → isNearestRoot a (r + 1) ≡ y → isNearestRoot a (r - 1) ≡ z → cond x Nearest (cond y TooLow (cond z TooHigh Unknown)) ≡ verdictOf a r
+verdict-by : (a r : ℕ) (x y z : Bool) → isNearestRoot a r ≡ x → isNearestRoot a (r + 1) ≡ y
+    → isNearestRoot a (r - 1) ≡ z → cond x Nearest (cond y TooLow (cond z TooHigh Unknown)) ≡ verdictOf a r
 unfolding verdictOf
-verdict-by a r x y z e f g = sym (ap₂ (λ (u : Bool) (v : Verdict). cond u Nearest v) e (ap₂ (λ (u : Bool) (v : Verdict). cond u TooLow v) f (ap (λ (u : Bool). cond u TooHigh Unknown) g)))
+verdict-by a r x y z e f g =
+    sym (ap₂ (λ (u : Bool) (v : Verdict). cond u Nearest v) e
+    (ap₂ (λ (u : Bool) (v : Verdict). cond u TooLow v) f (ap (λ (u : Bool). cond u TooHigh Unknown) g)))
 
 pub is-nearest : (a r : ℕ) → r * r < a + r → a ≤ r * r + r → Nearest ≡ verdictOf a r
 is-nearest a r h g = verdict-by a r true (isNearestRoot a (r + 1)) (isNearestRoot a (r - 1)) (yes-at a r h g) refl refl
 
 pub is-too-low : (a r : ℕ) → r * r + r < a → a ≤ r * r + 3 * r + 2 → TooLow ≡ verdictOf a r
-is-too-low a r h g = verdict-by a r false true (isNearestRoot a (r - 1)) (large-at a r h) (yes-at a (r + 1) (omega arith) (omega arith)) refl
+is-too-low a r h g =
+    verdict-by a r false true (isNearestRoot a (r - 1)) (large-at a r h)
+    (yes-at a (r + 1) (omega arith) (omega arith)) refl
 
 small-next : (a r : ℕ) → a + r ≤ r * r → isNearestRoot a (r + 1) ≡ false
 small-next a r h = small-at a (r + 1) (omega arith)
@@ -48,10 +54,13 @@ previous a j x e = subst (λ (n : ℕ). isNearestRoot a n ≡ x) (let z : j ≡ 
 
 pub is-too-high : (a r : ℕ) → a + r ≤ r * r → r * r + 2 < a + 3 * r → TooHigh ≡ verdictOf a r
 is-too-high a zero h g = absurd (let z : ⊥ = omega arith in z)
-is-too-high a (suc j) h g = verdict-by a (suc j) false false true (small-at a (suc j) h) (small-next a (suc j) h) (previous a j true (yes-at a j (omega arith) (omega arith)))
+is-too-high a (suc j) h g =
+    verdict-by a (suc j) false false true (small-at a (suc j) h) (small-next a (suc j) h)
+    (previous a j true (yes-at a j (omega arith) (omega arith)))
 
 pub is-above-all : (a r : ℕ) → r * r + 3 * r + 2 < a → Unknown ≡ verdictOf a r
-is-above-all a r h = verdict-by a r false false false (large-at a r (omega arith)) (large-at a (r + 1) (omega arith)) (last r h)
+is-above-all a r h =
+    verdict-by a r false false false (large-at a r (omega arith)) (large-at a (r + 1) (omega arith)) (last r h)
   where
     last : (r : ℕ) → r * r + 3 * r + 2 < a → isNearestRoot a (r - 1) ≡ false
     last zero h = large-at a 0 (omega arith)
@@ -65,12 +74,6 @@ is-below-all a r h g = verdict-by a r false false false (small-at a r h) (small-
     last (suc j) h g = previous a j false (small-at a j (omega arith))
 
 -- ---- what it says
-
-abbrev pub Says : ℕ → ℕ → Verdict → Type 0
-Says a r Nearest = NearestRoot a r
-Says a r TooLow = NearestRoot a (r + 1)
-Says a r TooHigh = (0 < r) × NearestRoot a (r - 1)
-Says a r Unknown = T true
 
 nearest-of-test : (a r : ℕ) → isNearestRoot a r ≡ true → NearestRoot a r
 nearest-of-test a r e =
@@ -88,7 +91,8 @@ verdict-says a r = go (isNearestRoot a r) (isNearestRoot a (r + 1)) (isNearestRo
     positive zero n = absurd (let h = n .below in let g = n .above in let z : ⊥ = omega arith in z)
     positive (suc j) n = omega arith
 
-    go : (x y z : Bool) → isNearestRoot a r ≡ x → isNearestRoot a (r + 1) ≡ y → isNearestRoot a (r - 1) ≡ z → Says a r (cond x Nearest (cond y TooLow (cond z TooHigh Unknown)))
+    go : (x y z : Bool) → isNearestRoot a r ≡ x → isNearestRoot a (r + 1) ≡ y → isNearestRoot a (r - 1) ≡ z
+        → Says a r (cond x Nearest (cond y TooLow (cond z TooHigh Unknown)))
     go true y z e f g = nearest-of-test a r e
     go false true z e f g = nearest-of-test a (r + 1) f
     go false false true e f g = let n = nearest-of-test a (r - 1) g in (positive r n, n)

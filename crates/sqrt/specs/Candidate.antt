@@ -17,6 +17,7 @@ unfoldable pub candidateOf : Float → ℕ → Float
 unfolding firstGuess newtonStep
 candidateOf x b =
     let h = x *ᶠ ½ᶠ in
-    let y = newtonStep (ofBits binary64 0x3ff8_0000_a10f_afa0) h (newtonStep (ofBits binary64 0x3ff8_0390_42d8_c2a4) h (firstGuess b)) in
+    let y = newtonStep (ofBits binary64 0x3ff8_0000_a10f_afa0) h
+    (newtonStep (ofBits binary64 0x3ff8_0390_42d8_c2a4) h (firstGuess b)) in
     let a = leadingDigits (x *ᶠ y) (ofBits binary64 0x41a0_0000_0200_0000) in
     a +ᶠ (x -ᶠ a *ᶠ a) /ᶠ (a +ᶠ x *ᶠ newtonStep (ofBits binary64 0x3ff8_0000_0000_0000) h y)

@@ -1,16 +1,26 @@
 -- The verdict on a candidate for a square root. Definitions only.
 use mathlib.Core.Path.{_≡_}
 use Prim.Native.Nat.{ℕ, _+_, _-_, _*_, _/_, _%_, _^_, _<_}
-use mathlib.Core.Bool.{cond}
+use mathlib.Core.Bool.{true, cond}
+use lib.Dec.{T}
 use lib.Ieee.{binary64, ofBits}
 use Rattle.elementary.specs.Functions.{sqrtOf}
-use Rattle.sqrt.specs.Roots.{isNearestRoot}
+use Rattle.sqrt.specs.Roots.{NearestRoot, isNearestRoot}
 use Rattle.sqrt.specs.declared.certificate.Verdict.{Verdict}
 use Rattle.sqrt.specs.declared.certificate.Verdict.the-variants.{Nearest, TooLow, TooHigh, Unknown}
 
 -- on r as the whole number nearest to √a
 unfoldable pub verdictOf : ℕ → ℕ → Verdict
-verdictOf a r = cond (isNearestRoot a r) Nearest (cond (isNearestRoot a (r + 1)) TooLow (cond (isNearestRoot a (r - 1)) TooHigh Unknown))
+verdictOf a r =
+    cond (isNearestRoot a r) Nearest
+    (cond (isNearestRoot a (r + 1)) TooLow (cond (isNearestRoot a (r - 1)) TooHigh Unknown))
+
+-- what it says
+abbrev pub Says : ℕ → ℕ → Verdict → Type 0
+Says a r Nearest = NearestRoot a r
+Says a r TooLow = NearestRoot a (r + 1)
+Says a r TooHigh = (0 < r) × NearestRoot a (r - 1)
+Says a r Unknown = T true
 
 -- p is the pattern of the root of the double with the pattern b
 abbrev pub IsRoot : ℕ → ℕ → Type 0
@@ -24,7 +34,8 @@ IsPattern b r c = (b / 2 ^ 52 + 1021) / 2 * 2 ^ 52 + r ≡ c
 abbrev pub radicandOf : ℕ → ℕ
 radicandOf b = (b % 2 ^ 52 + 2 ^ 52) * 2 ^ ((b / 2 ^ 52 + 1021) % 2)
 
--- what a verdict on c as that pattern says: Unknown, that c has another exponent, or neither it nor a neighbour is the nearest
+-- what a verdict on c as that pattern says: Unknown, that c has another exponent, or neither
+-- it nor a neighbour is the nearest
 abbrev pub Certified : ℕ → ℕ → Verdict → Type 0
 Certified b c Nearest = IsRoot b c
 Certified b c TooLow = IsRoot b (c + 1)

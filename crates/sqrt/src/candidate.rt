@@ -20,8 +20,8 @@ fn newton(factor: f64, h: f64, y: f64) -> f64
     y * (factor - h * y * y)
 }
 
-// With a near √x: √x = a + (x - a²) / (a + √x). The 26 leading digits of an estimate serve as a, so that a² and the difference
-// are exact, and the root in the divisor needs few digits.
+// With a near √x: √x = a + (x - a²) / (a + √x). The 26 leading digits of an estimate serve as a, so that a² and the
+// difference are exact, and the root in the divisor needs few digits.
 pub fn candidate(x: f64, b: u64) -> f64
     requires { ⌜ b < 2 ^ 63 ⌝ }
     ensures { λ r. ⌜ r ≡ candidateOf x b ⌝ }

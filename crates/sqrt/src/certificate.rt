@@ -12,8 +12,9 @@ pub enum Verdict {
 }
 
 // The verdict on r as the whole number nearest to √(m * 2^52). By its upper 27 digits and its lower 26 the square of r is
-// high² * 2^52 + cross * 2^27 + low². Where m and the square's part from 2^52 on are 8 or more apart, r and its neighbours are
-// all too far; otherwise m * 2^52 - r² is known by its residue modulo 2^64. The excess is r more: from 1 to 2r for the nearest.
+// high² * 2^52 + cross * 2^27 + low². Where m and the square's part from 2^52 on are 8 or more apart, r and its
+// neighbours are all too far; otherwise m * 2^52 - r² is known by its residue modulo 2^64. The excess is r more: from 1
+// to 2r for the nearest.
 fn judged(m: u64, r: u64) -> Verdict
     requires { ⌜ (m < 2 ^ 54) × (r < 2 ^ 53) ⌝ }
     ensures { λ v. ⌜ v ≡ verdictOf (m * 2 ^ 52) r ⌝ }
@@ -59,8 +60,8 @@ fn radicand(digits: u64) -> u64
     }
 }
 
-// The verdict on c as the pattern of the root of the normal double with the pattern b. The root has half the exponent of b, so
-// r is what is left of c without it. Unknown costs only time: the caller then finds the digits one by one.
+// The verdict on c as the pattern of the root of the normal double with the pattern b. The root has half the exponent
+// of b, so r is what is left of c without it. Unknown costs only time: the caller then finds the digits one by one.
 pub fn root_judged(b: u64, c: u64) -> Verdict
     requires { ⌜ (2 ^ 52 ≤ b) × (b < 0x7ff0_0000_0000_0000) ⌝ }
     ensures { λ v. ⌜ Certified b c v ⌝ }

@@ -1,5 +1,5 @@
--- The sides of the cosine's equation, on a scale where 1 is 2H and t is u / b. At n = H + i they compare as 2 H³ ± t with i²(3H + i), since
--- n³ + 2 H³ = 3n H² + i²(3H + i). Assumes nothing.
+-- The sides of the cosine's equation, on a scale where 1 is 2H and t is u / b. At n = H + i
+-- they compare as 2 H³ ± t with i²(3H + i), since n³ + 2 H³ = 3n H² + i²(3H + i). Assumes nothing.
 use mathlib.Core.Path.{_≡_, ap, ap₂, _∙_}
 use Prim.Native.Nat.{ℕ, _+_, _*_, _≤_, _<_, compare, Ordering, Ordering·lt, Ordering·gt}
 use native.Mathlib.Nat.{mul-pos, mul-le-mul-right, mul-lt-mul-of-pos-right}
@@ -16,17 +16,23 @@ sides O s u b n = compare (3 * n * O * O * b + cond s 0 (u * O * O * O)) (4 * n 
 -- ---- at H + i, with t P for the size of t on the scale of 2 H³ = q P
 
 module _ (H P q t u b i : ℕ) (pos : 0 < b) (size : u * (2 * H) * (2 * H) * (2 * H) ≡ t * P * (4 * b)) where
-  reduced : (s : Bool) → sides (2 * H) s u b (H + i) ≡ compare (3 * (H + i) * (H * H) + cond s 0 (t * P)) ((H + i) * (H + i) * (H + i) + cond s (t * P) 0)
+  reduced : (s : Bool)
+      → sides (2 * H) s u b (H + i)
+      ≡ compare (3 * (H + i) * (H * H) + cond s 0 (t * P)) ((H + i) * (H + i) * (H + i) + cond s (t * P) 0)
   reduced false =
       ap₂ (λ (x y : ℕ). compare x y)
-      (let z : 3 * (H + i) * (2 * H) * (2 * H) * b + u * (2 * H) * (2 * H) * (2 * H) ≡ (3 * (H + i) * (H * H) + t * P) * (4 * b) = omega arith in z)
+      (let z : 3 * (H + i) * (2 * H) * (2 * H) * b + u * (2 * H) * (2 * H) * (2 * H)
+      ≡ (3 * (H + i) * (H * H) + t * P) * (4 * b) = omega arith in z)
       (let z : 4 * (H + i) * (H + i) * (H + i) * b + 0 ≡ ((H + i) * (H + i) * (H + i) + 0) * (4 * b) = omega arith in z)
-      ∙ compare-scaled (4 * b) (3 * (H + i) * (H * H) + t * P) ((H + i) * (H + i) * (H + i) + 0) (mul-pos (let z : 0 < 4 = omega arith in z) pos)
+      ∙ compare-scaled (4 * b) (3 * (H + i) * (H * H) + t * P) ((H + i) * (H + i) * (H + i) + 0)
+      (mul-pos (let z : 0 < 4 = omega arith in z) pos)
   reduced true =
       ap₂ (λ (x y : ℕ). compare x y)
       (let z : 3 * (H + i) * (2 * H) * (2 * H) * b + 0 ≡ (3 * (H + i) * (H * H) + 0) * (4 * b) = omega arith in z)
-      (let z : 4 * (H + i) * (H + i) * (H + i) * b + u * (2 * H) * (2 * H) * (2 * H) ≡ ((H + i) * (H + i) * (H + i) + t * P) * (4 * b) = omega arith in z)
-      ∙ compare-scaled (4 * b) (3 * (H + i) * (H * H) + 0) ((H + i) * (H + i) * (H + i) + t * P) (mul-pos (let z : 0 < 4 = omega arith in z) pos)
+      (let z : 4 * (H + i) * (H + i) * (H + i) * b + u * (2 * H) * (2 * H) * (2 * H)
+      ≡ ((H + i) * (H + i) * (H + i) + t * P) * (4 * b) = omega arith in z)
+      ∙ compare-scaled (4 * b) (3 * (H + i) * (H * H) + 0) ((H + i) * (H + i) * (H + i) + t * P)
+      (mul-pos (let z : 0 < 4 = omega arith in z) pos)
 
   sums : (H + i) * (H + i) * (H + i) + 2 * (H * H * H) ≡ 3 * (H + i) * (H * H) + i * i * (3 * H + i)
   sums = omega arith
@@ -66,13 +72,18 @@ module _ (H u b : ℕ) (small : u < b) where
   times c = mul-le-mul-right c (let z : u ≤ b = omega arith in z)
 
   pub at-half : (s : Bool) → T (isGe (sides (2 * H) s u b H))
-  at-half false = le→ge (3 * H * (2 * H) * (2 * H) * b + u * (2 * H) * (2 * H) * (2 * H)) (4 * H * H * H * b + 0) (omega arith)
-  at-half true = let l = times (H * H * H) in le→ge (3 * H * (2 * H) * (2 * H) * b + 0) (4 * H * H * H * b + u * (2 * H) * (2 * H) * (2 * H)) (omega arith)
+  at-half false =
+      le→ge (3 * H * (2 * H) * (2 * H) * b + u * (2 * H) * (2 * H) * (2 * H)) (4 * H * H * H * b + 0) (omega arith)
+  at-half true =
+      let l = times (H * H * H) in
+      le→ge (3 * H * (2 * H) * (2 * H) * b + 0) (4 * H * H * H * b + u * (2 * H) * (2 * H) * (2 * H)) (omega arith)
 
   pub at-one : 0 < H → (s : Bool) → sides (2 * H) s u b (2 * H) ≡ Ordering·lt
   at-one p false =
       let l : u * (H * H * H) < b * (H * H * H) = mul-lt-mul-of-pos-right small (mul-pos (mul-pos p p) p) in
-      said Ordering·lt (3 * (2 * H) * (2 * H) * (2 * H) * b + u * (2 * H) * (2 * H) * (2 * H)) (4 * (2 * H) * (2 * H) * (2 * H) * b + 0) (omega arith)
+      said Ordering·lt (3 * (2 * H) * (2 * H) * (2 * H) * b + u * (2 * H) * (2 * H) * (2 * H))
+      (4 * (2 * H) * (2 * H) * (2 * H) * b + 0) (omega arith)
   at-one p true =
       let l : 0 < b * (H * H * H) = mul-pos (let z : 0 < b = omega arith in z) (mul-pos (mul-pos p p) p) in
-      said Ordering·lt (3 * (2 * H) * (2 * H) * (2 * H) * b + 0) (4 * (2 * H) * (2 * H) * (2 * H) * b + u * (2 * H) * (2 * H) * (2 * H)) (omega arith)
+      said Ordering·lt (3 * (2 * H) * (2 * H) * (2 * H) * b + 0)
+      (4 * (2 * H) * (2 * H) * (2 * H) * b + u * (2 * H) * (2 * H) * (2 * H)) (omega arith)

@@ -1,4 +1,5 @@
--- What the answer of a certificate says of c as the pattern of the cosine for the t with this sign bit and this pattern of its magnitude.
+-- What the answer of a certificate says of c as the pattern of the cosine for the t with this
+-- sign bit and this pattern of its magnitude.
 -- Definitions only.
 use mathlib.Core.Path.{_≡_}
 use mathlib.Core.Bool.{Bool, true}

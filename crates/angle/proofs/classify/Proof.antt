@@ -20,24 +20,38 @@ float-to-bits-b : tie.Need-float-to-bits-b
 float-to-bits-b c = not-nan (c .before .args .t) (c .if1 .left)
 
 returns-2 : tie.Need-returns-2
-returns-2 c = outside (c .before .before .args .t) (held (c .before .before)) (not-nan (c .before .before .args .t) (c .before .if1 .left)) (rw (and-mask (toBits binary64 (c .before .before .args .t)) 63) at (c .if2 .taken))
+returns-2 c =
+    let at-entry = c .before .before in
+    let t = at-entry .args .t in
+    outside t (held at-entry) (not-nan t (c .before .if1 .left))
+    (rw (and-mask (toBits binary64 t) 63) at (c .if2 .taken))
 
 returns-3 : tie.Need-returns-3
-returns-3 c = one (c .before .before .before .before .args .t) (held (c .before .before .before .before)) (c .if4 .taken ∙ c .before .if3 .taken)
+returns-3 c =
+    let at-entry = c .before .before .before .before in
+    one (at-entry .args .t) (held at-entry) (c .if4 .taken ∙ c .before .if3 .taken)
 
 returns-4 : tie.Need-returns-4
-returns-4 c = minus-one (c .before .before .before .before .args .t) (held (c .before .before .before .before)) (sym (and-mask (toBits binary64 (c .before .before .before .before .args .t)) 63) ∙ c .before .if3 .taken) (rw (and-mask (toBits binary64 (c .before .before .before .before .args .t)) 63) at (c .if4 .left))
+returns-4 c =
+    let at-entry = c .before .before .before .before in
+    let t = at-entry .args .t in
+    minus-one t (held at-entry) (sym (and-mask (toBits binary64 t) 63) ∙ c .before .if3 .taken)
+    (rw (and-mask (toBits binary64 t) 63) at (c .if4 .left))
 
 returns-5 : tie.Need-returns-5
-returns-5 c = near (c .before .before .before .before .args .t) (held (c .before .before .before .before)) (rw (and-mask (toBits binary64 (c .before .before .before .before .args .t)) 63) at (c .if5 .taken))
+returns-5 c =
+    let at-entry = c .before .before .before .before in
+    near (at-entry .args .t) (held at-entry) (rw (and-mask (toBits binary64 (at-entry .args .t)) 63) at (c .if5 .taken))
 
 returns-6 : tie.Need-returns-6
-returns-6 c = (
-  sign-lt (c .before .before .before .before .args .t) (held (c .before .before .before .before)),
-  c .if5 .left,
-  lt-of-le-ne (c .before .before .if2 .left) (c .before .if3 .left),
-  rw (and-mask (toBits binary64 (c .before .before .before .before .args .t)) 63) (by-sign (c .before .before .before .before .args .t) (held (c .before .before .before .before))),
-)
+returns-6 c =
+    let at-entry = c .before .before .before .before in
+    let t = at-entry .args .t in (
+      sign-lt t (held at-entry),
+      c .if5 .left,
+      lt-of-le-ne (c .before .before .if2 .left) (c .before .if3 .left),
+      rw (and-mask (toBits binary64 t) 63) (by-sign t (held at-entry)),
+    )
 
 pub classify-spec : {M : Type 1} → statement M
 classify-spec = tie.close (tie.spec returns float-to-bits-b returns-2 returns-3 returns-4 returns-5 returns-6)

@@ -44,11 +44,18 @@ add-t13 c = search needs
 
 returns : tie.Need-returns
 returns c =
-    rw (mod-eq-of-lt {n = bitAnd (c .before .args .b) 0xf_ffff_ffff_ffff * 2 ^ (leadingZeros 64 (bitAnd (c .before .args .b) 0xf_ffff_ffff_ffff) - 11)} {m = 2 ^ 64} (omega (arith, amount c .fits)), is c)
+    rw (
+      mod-eq-of-lt
+          {n = bitAnd (c .before .args .b) 0xf_ffff_ffff_ffff * 2 ^ (leadingZeros 64 (bitAnd (c .before .args .b) 0xf_ffff_ffff_ffff) - 11)} {m = 2 ^ 64} (omega (arith, amount c .fits)),
+      is c,
+    )
     (subnormal (c .before .args .b) (c .before .pre .0) (omega arith))
 
 returns-2 : tie.Need-returns-2
-returns-2 c = rw (and-mask (c .before .args .b) 52) (normal (c .before .args .b) (c .before .args .b / 2 ^ 52 - 1) (some (c .before .args .b / 2 ^ 52) (c .if1 .left)) (c .before .pre .1))
+returns-2 c =
+    rw (and-mask (c .before .args .b) 52)
+    (normal (c .before .args .b) (c .before .args .b / 2 ^ 52 - 1) (some (c .before .args .b / 2 ^ 52) (c .if1 .left))
+    (c .before .pre .1))
   where
     some : (n : ℕ) → (n ≡ 0 → ⊥) → n ≡ suc (n - 1)
     some n h = omega arith

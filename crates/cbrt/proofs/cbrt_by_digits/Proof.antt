@@ -21,19 +21,40 @@ float-to-bits-b : tie.Need-float-to-bits-b
 float-to-bits-b c = not-nan (c .before .args .x) (c .if1 .left)
 
 returns-2 : tie.Need-returns-2
-returns-2 c = zero-root (c .before .before .args .x) (held (c .before .before)) (sym (and-mask (toBits binary64 (c .before .before .args .x)) 63) ∙ c .if2 .taken)
+returns-2 c =
+    let at-entry = c .before .before in
+    zero-root (at-entry .args .x) (held at-entry)
+    (sym (and-mask (toBits binary64 (at-entry .args .x)) 63) ∙ c .if2 .taken)
 
 returns-3 : tie.Need-returns-3
-returns-3 c = infinite-root (c .before .before .before .args .x) (held (c .before .before .before)) (not-nan (c .before .before .before .args .x) (c .before .before .if1 .left)) (rw (and-mask (toBits binary64 (c .before .before .before .args .x)) 63) at (c .if3 .taken))
+returns-3 c =
+    let at-entry = c .before .before .before in
+    let x = at-entry .args .x in
+    infinite-root x (held at-entry) (not-nan x (c .before .before .if1 .left))
+    (rw (and-mask (toBits binary64 x) 63) at (c .if3 .taken))
 
 float-from-bits-root : tie.Need-float-from-bits-root
 float-from-bits-root c = not-nan-bits _ (omega (arith, c .root-pattern .ensures .0))
 
 returns-4 : tie.Need-returns-4
-returns-4 c = root-positive (c .before .before .before .before .before .args .x) (held (c .before .before .before .before .before)) _ (rw (and-mask (toBits binary64 (c .before .before .before .before .before .args .x)) 63) at (c .before .root-pattern .ensures .1)) (rw (and-mask (toBits binary64 (c .before .before .before .before .before .args .x)) 63) at (c .if4 .taken))
+returns-4 c =
+    let after-root-pattern = c .before in
+    let at-entry = after-root-pattern .before .before .before .before in
+    let x = at-entry .args .x in
+    root-positive x (held at-entry) _
+    (rw (and-mask (toBits binary64 x) 63) at (after-root-pattern .root-pattern .ensures .1))
+    (rw (and-mask (toBits binary64 x) 63) at (c .if4 .taken))
 
 returns-5 : tie.Need-returns-5
-returns-5 c = root-negative (c .before .before .before .before .before .args .x) (held (c .before .before .before .before .before)) _ (rw (and-mask (toBits binary64 (c .before .before .before .before .before .args .x)) 63) at (c .before .root-pattern .ensures .1)) (rw (and-mask (toBits binary64 (c .before .before .before .before .before .args .x)) 63) at (c .if4 .left))
+returns-5 c =
+    let after-root-pattern = c .before in
+    let at-entry = after-root-pattern .before .before .before .before in
+    let x = at-entry .args .x in
+    root-negative x (held at-entry) _
+    (rw (and-mask (toBits binary64 x) 63) at (after-root-pattern .root-pattern .ensures .1))
+    (rw (and-mask (toBits binary64 x) 63) at (c .if4 .left))
 
 pub cbrt-by-digits-spec : {M : Type 1} → statement M
-cbrt-by-digits-spec = tie.close (tie.spec returns float-to-bits-b returns-2 returns-3 (λ c κs. search needs) float-from-bits-root returns-4 returns-5)
+cbrt-by-digits-spec =
+    tie.close (tie.spec returns float-to-bits-b returns-2 returns-3
+    (λ c κs. search needs) float-from-bits-root returns-4 returns-5)

@@ -9,16 +9,20 @@ use Rattle.elementary_test.proofs.line.Tie as tie
 returns : tie.Need-returns
 unfolding answerOf
 returns c =
+    let after-put-doubles = c .before .before .before in
+    let after-put-hex = after-put-doubles .before .before .before in
+    let after-cbrt = after-put-hex .before .before .before in
+    let after-third-angle-pair = after-cbrt .before in
     let p = rw (
-      c .before .before .before .before .before .before .before .sqrt .ensures,
-      c .before .before .before .before .before .before .before .before .before .cbrt .ensures,
-      c .before .before .before .before .before .before .before .before .before .before .third-angle-pair .ensures .0,
-      c .before .before .before .before .before .before .before .before .before .before .third-angle-pair .ensures .1,
-      c .before .before .before .before .before .before .before .before .before .before .before .double-at .ensures,
+      after-put-hex .before .sqrt .ensures,
+      after-cbrt .cbrt .ensures,
+      after-third-angle-pair .third-angle-pair .ensures .0,
+      after-third-angle-pair .third-angle-pair .ensures .1,
+      after-third-angle-pair .before .double-at .ensures,
     ) at
     (then (then
-    (c .before .before .before .before .before .before .put-hex .ensures)
-    (c .before .before .before .put-doubles .ensures)) (c .put .ensures)) in
+    (after-put-hex .put-hex .ensures)
+    (after-put-doubles .put-doubles .ensures)) (c .put .ensures)) in
     (p, counted (omega arith) p)
 
 pub line-spec : {M : Type 1} → statement M

@@ -6,11 +6,13 @@ use Rattle.encoding.proofs.hex8.Tie as tie
 
 returns : tie.Need-returns
 returns c =
+    let after-hex-digit4 = c .before .before .before .before in
+    let after-hex-digit = after-hex-digit4 .before .before .before in
     eight-digits _ _ _ _ _ _ _ _ _
-    (c .before .before .before .before .before .before .before .hex-digit .ensures)
-    (c .before .before .before .before .before .before .hex-digit2 .ensures)
-    (c .before .before .before .before .before .hex-digit3 .ensures)
-    (c .before .before .before .before .hex-digit4 .ensures)
+    (after-hex-digit .hex-digit .ensures)
+    (after-hex-digit4 .before .before .hex-digit2 .ensures)
+    (after-hex-digit4 .before .hex-digit3 .ensures)
+    (after-hex-digit4 .hex-digit4 .ensures)
     (c .before .before .before .hex-digit5 .ensures)
     (c .before .before .hex-digit6 .ensures)
     (c .before .hex-digit7 .ensures)

@@ -8,16 +8,18 @@ use Rattle.encoding.proofs.word.Tie as tie
 
 returns : tie.Need-returns
 returns c =
-    let first = c .before .before .before .before .before .before .before in
-    let e : first .with-byte .result ≡ getD (first .before .args .t1) 0 0 = omega (arith, first .with-byte .ensures .0) in
+    let after-with-byte4 = c .before .before .before .before in
+    let after-with-byte = after-with-byte4 .before .before .before in
+    let e : after-with-byte .with-byte .result ≡ getD (after-with-byte .before .args .t1) 0 0 =
+    omega (arith, after-with-byte .with-byte .ensures .0) in
     rw (
       c .with-byte8 .ensures .0,
       c .before .with-byte7 .ensures .0,
       c .before .before .with-byte6 .ensures .0,
       c .before .before .before .with-byte5 .ensures .0,
-      c .before .before .before .before .with-byte4 .ensures .0,
-      c .before .before .before .before .before .with-byte3 .ensures .0,
-      c .before .before .before .before .before .before .with-byte2 .ensures .0,
+      after-with-byte4 .with-byte4 .ensures .0,
+      after-with-byte4 .before .with-byte3 .ensures .0,
+      after-with-byte4 .before .before .with-byte2 .ensures .0,
       e,
     )
 

@@ -9,11 +9,14 @@ use Rattle.roots_test.proofs.line.Tie as tie
 returns : tie.Need-returns
 unfolding answerOf
 returns c =
+    let after-put-values = c .before .before .before in
+    let after-put-decimal = after-put-values .before .before in
+    let after-roots-of = after-put-decimal .before .before .before in
     let p = rw
-    (c .before .before .before .before .before .before .before .before .roots-of .ensures) at
+    (after-roots-of .roots-of .ensures) at
     (then (then
-    (c .before .before .before .before .before .put-decimal .ensures)
-    (c .before .before .before .put-values .ensures)) (c .put .ensures)) in
+    (after-put-decimal .put-decimal .ensures)
+    (after-put-values .put-values .ensures)) (c .put .ensures)) in
     (p, counted (omega arith) p)
 
 pub line-spec : {M : Type 1} → statement M

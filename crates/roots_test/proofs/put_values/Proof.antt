@@ -12,30 +12,37 @@ slice-aggregate-put-doubles c = sym (length-take-le _ _ (omega arith))
 
 put-doubles-requires : tie.Need-put-doubles-requires
 put-doubles-requires c κs =
+    let at-entry = c .before .before .before .before in
     omega (
       arith,
       length-take-le
-          (c .before .before .before .before .args .count)
-          (c .before .before .before .before .args .t3) (omega arith),
+          (at-entry .args .count)
+          (at-entry .args .t3) (omega arith),
     )
 
 returns : tie.Need-returns
 returns c =
+    let after-put-doubles = c .before .before in
+    let at-if1 = after-put-doubles .before .before .before .before in
+    let at-entry = at-if1 .before in
     within (omega (
       arith,
       length-take-le
-          (c .before .before .before .before .before .before .before .args .count)
-          (c .before .before .before .before .before .before .before .args .t3) (omega arith),
+          (at-entry .args .count)
+          (at-entry .args .t3) (omega arith),
     ))
-    (c .before .before .put-doubles .ensures)
+    (after-put-doubles .put-doubles .ensures)
 
 returns-2 : tie.Need-returns-2
 returns-2 c =
+    let after-put-doubles2 = c .before .before in
+    let at-if1 = after-put-doubles2 .before .before .before .before in
+    let at-entry = at-if1 .before in
     rw (take-all
-    (c .before .before .before .before .before .before .before .args .count)
-    (c .before .before .before .before .before .before .before .args .t3) (omega arith))
+    (at-entry .args .count)
+    (at-entry .args .t3) (omega arith))
     (within (omega arith)
-    (c .before .before .put-doubles2 .ensures))
+    (after-put-doubles2 .put-doubles2 .ensures))
 
 pub put-values-spec : {M : Type 1} → statement M
 put-values-spec =

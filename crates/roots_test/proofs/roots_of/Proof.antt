@@ -7,12 +7,14 @@ use Rattle.roots_test.proofs.roots_of.Tie as tie
 returns : tie.Need-returns
 unfolding rootsOf
 returns c =
+    let after-double-at3 = c .before .before .before .before in
+    let after-double-at = after-double-at3 .before .before .before .before in
     rw (
       c .ascending .ensures,
       c .before .solve-quart-monic-coeffs .ensures,
-      c .before .before .before .before .before .before .before .before .double-at .ensures,
-      c .before .before .before .before .before .before .double-at2 .ensures,
-      c .before .before .before .before .double-at3 .ensures,
+      after-double-at .double-at .ensures,
+      after-double-at3 .before .before .double-at2 .ensures,
+      after-double-at3 .double-at3 .ensures,
       c .before .before .double-at4 .ensures,
     )
 

@@ -22,8 +22,10 @@ use Rattle.sqrt.proofs.sqrt.Tie as tie
 -- a normal pattern, by the two tests
 normal : (b : ℕ) → leb (2 ^ 52) b && ltb b 0x7ff0_0000_0000_0000 ≡ true → (2 ^ 52 ≤ b) × (b < 0x7ff0_0000_0000_0000)
 normal b e =
-    let t : T (leb (2 ^ 52) b && ltb b 0x7ff0_0000_0000_0000) = subst T (sym e) tt in
-    (leb→le (2 ^ 52) b (and-l (leb (2 ^ 52) b) (ltb b 0x7ff0_0000_0000_0000) t), ltb→lt b 0x7ff0_0000_0000_0000 (and-r (leb (2 ^ 52) b) (ltb b 0x7ff0_0000_0000_0000) t))
+    let t : T (leb (2 ^ 52) b && ltb b 0x7ff0_0000_0000_0000) = subst T (sym e) tt in (
+      leb→le (2 ^ 52) b (and-l (leb (2 ^ 52) b) (ltb b 0x7ff0_0000_0000_0000) t),
+      ltb→lt b 0x7ff0_0000_0000_0000 (and-r (leb (2 ^ 52) b) (ltb b 0x7ff0_0000_0000_0000) t),
+    )
 
 candidate-fits : (x : Float) (b : ℕ) → T (fits binary64 (candidateOf x b))
 unfolding candidateOf
@@ -45,16 +47,28 @@ root-judged-requires : tie.Need-root-judged-requires
 root-judged-requires c κs = normal _ (c .before .before .if2 .taken)
 
 module _ (c : tie.After-root-judged) where
+  abbrev after-candidate : tie.After-candidate
+  after-candidate = c .before .before
+
+  abbrev at-entry : tie.Start
+  at-entry = after-candidate .before .before .before
+
   -- what the verdict says, once it is known
-  told : (v : Verdict) → c .root-judged .result ≡ v → Certified (toBits binary64 (c .before .before .before .before .before .args .x)) (toBits binary64 (c .before .before .candidate .result)) v
-  told v e = subst (λ (w : Verdict). Certified (toBits binary64 (c .before .before .before .before .before .args .x)) (toBits binary64 (c .before .before .candidate .result)) w) e (c .root-judged .ensures)
+  told : (v : Verdict) → c .root-judged .result ≡ v
+      → Certified (toBits binary64 (at-entry .args .x)) (toBits binary64 (after-candidate .candidate .result)) v
+  told v e =
+      subst (λ (w : Verdict). Certified (toBits binary64 (at-entry .args .x))
+      (toBits binary64 (after-candidate .candidate .result)) w) e (c .root-judged .ensures)
 
   -- the root of the argument's pattern is the argument's
-  own-pattern : sqrtOf (ofBits binary64 (toBits binary64 (c .before .before .before .before .before .args .x))) ≡ sqrtOf (c .before .before .before .before .before .args .x)
-  own-pattern = ap sqrtOf (ofBits-toBits binary64 (c .before .before .before .before .before .args .x) (subst T (sym (c .before .before .before .before .before .good .0 .1)) tt))
+  own-pattern : sqrtOf (ofBits binary64 (toBits binary64 (at-entry .args .x))) ≡ sqrtOf (at-entry .args .x)
+  own-pattern = ap sqrtOf (ofBits-toBits binary64 (at-entry .args .x) (subst T (sym (at-entry .good .0 .1)) tt))
 
-  own-candidate : c .before .before .candidate .result ≡ ofBits binary64 (toBits binary64 (c .before .before .candidate .result))
-  own-candidate = sym (ofBits-toBits binary64 (c .before .before .candidate .result) (subst (λ (y : Float). T (fits binary64 y)) (sym (c .before .before .candidate .ensures)) (candidate-fits _ _)))
+  own-candidate : after-candidate .candidate .result
+      ≡ ofBits binary64 (toBits binary64 (after-candidate .candidate .result))
+  own-candidate =
+      sym (ofBits-toBits binary64 (after-candidate .candidate .result)
+      (subst (λ (y : Float). T (fits binary64 y)) (sym (after-candidate .candidate .ensures)) (candidate-fits _ _)))
 
 finite-bits : (b : ℕ) → b < 0x7ff0_0000_0000_0000 → T (not (nanBits binary64 b))
 finite-bits b h = not-nan-bits b (omega arith)
@@ -63,7 +77,10 @@ enum-told : tie.Need-enum-told
 enum-told c = search needs
 
 returns-2 : tie.Need-returns-2
-returns-2 c = own-candidate (c .before .before) ∙ told (c .before .before) Nearest (c .enum-told .given .1) .1 ∙ own-pattern (c .before .before)
+returns-2 c =
+    let after-root-judged = c .before .before in
+    own-candidate after-root-judged ∙ told after-root-judged Nearest (c .enum-told .given .1) .1
+    ∙ own-pattern after-root-judged
 
 enum-told-2 : tie.Need-enum-told-2
 enum-told-2 c = search needs
@@ -75,7 +92,9 @@ float-from-bits-result : tie.Need-float-from-bits-result
 float-from-bits-result c = finite-bits _ (told (c .before .before) TooLow (c .enum-told2 .given .1) .0)
 
 returns-3 : tie.Need-returns-3
-returns-3 c = told (c .before .before) TooLow (c .enum-told2 .given .1) .1 ∙ own-pattern (c .before .before)
+returns-3 c =
+    let after-root-judged = c .before .before in
+    told after-root-judged TooLow (c .enum-told2 .given .1) .1 ∙ own-pattern after-root-judged
 
 enum-told-3 : tie.Need-enum-told-3
 enum-told-3 c = search needs
@@ -87,7 +106,9 @@ float-from-bits-result-2 : tie.Need-float-from-bits-result-2
 float-from-bits-result-2 c = finite-bits _ (told (c .before .before) TooHigh (c .enum-told3 .given .1) .1 .0)
 
 returns-4 : tie.Need-returns-4
-returns-4 c = told (c .before .before) TooHigh (c .enum-told3 .given .1) .1 .1 ∙ own-pattern (c .before .before)
+returns-4 c =
+    let after-root-judged = c .before .before in
+    told after-root-judged TooHigh (c .enum-told3 .given .1) .1 .1 ∙ own-pattern after-root-judged
 
 enum-told-4 : tie.Need-enum-told-4
 enum-told-4 c = search needs
@@ -100,8 +121,7 @@ returns-5 c = search needs
 
 pub sqrt-spec : {M : Type 1} → statement M
 sqrt-spec =
-    tie.close
-    (tie.spec
+    tie.close (tie.spec
     returns
     float-to-bits-b
     candidate-requires

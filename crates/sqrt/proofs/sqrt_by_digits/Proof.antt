@@ -21,8 +21,11 @@ held : (c : tie.Start) → T (fits binary64 (c .args .x))
 held c = subst T (sym (c .good .0 .1)) tt
 
 -- where the pattern is known, so is the result
-at-pattern : (x : Float) (b : ℕ) → T (fits binary64 x) → toBits binary64 x ≡ b → ofBits binary64 b ≡ sqrtOf (ofBits binary64 b) → x ≡ sqrtOf x
-at-pattern x b h e s = let is : ofBits binary64 b ≡ x = ap (ofBits binary64) (sym e) ∙ ofBits-toBits binary64 x h in subst (λ (y : Float). y ≡ sqrtOf y) is s
+at-pattern : (x : Float) (b : ℕ) → T (fits binary64 x) → toBits binary64 x ≡ b
+    → ofBits binary64 b ≡ sqrtOf (ofBits binary64 b) → x ≡ sqrtOf x
+at-pattern x b h e s =
+    let is : ofBits binary64 b ≡ x = ap (ofBits binary64) (sym e) ∙ ofBits-toBits binary64 x h in
+    subst (λ (y : Float). y ≡ sqrtOf y) is s
 
 zero : ofBits binary64 0 ≡ sqrtOf (ofBits binary64 0)
 unfolding sqrtOf ofBits
@@ -40,10 +43,14 @@ minus-infinity : sqrtOf (ofBits binary64 (2 ^ 63 + 0x7ff0_0000_0000_0000)) ≡ n
 unfolding sqrtOf ofBits
 minus-infinity = refl
 
-negative : (x : Float) → T (fits binary64 x) → T (not (isNan x)) → 0x7ff0_0000_0000_0000 ≤ toBits binary64 x → (toBits binary64 x ≡ 0x7ff0_0000_0000_0000 → ⊥) → (toBits binary64 x ≡ 2 ^ 63 → ⊥) → sqrtOf x ≡ nan
-negative x h n a i z = go (toBits binary64 x - 2 ^ 63) (split (toBits binary64 x) (lib.Ieee.Bits.toBits-lt binary64 x h) (pattern-most x h n) a i z)
+negative : (x : Float) → T (fits binary64 x) → T (not (isNan x)) → 0x7ff0_0000_0000_0000 ≤ toBits binary64 x
+    → (toBits binary64 x ≡ 0x7ff0_0000_0000_0000 → ⊥) → (toBits binary64 x ≡ 2 ^ 63 → ⊥) → sqrtOf x ≡ nan
+negative x h n a i z =
+    go (toBits binary64 x - 2 ^ 63)
+    (split (toBits binary64 x) (lib.Ieee.Bits.toBits-lt binary64 x h) (pattern-most x h n) a i z)
   where
-    split : (b : ℕ) → b < 2 ^ 64 → b % 2 ^ 63 ≤ 0x7ff0_0000_0000_0000 → 0x7ff0_0000_0000_0000 ≤ b → (b ≡ 0x7ff0_0000_0000_0000 → ⊥) → (b ≡ 2 ^ 63 → ⊥)
+    split : (b : ℕ) → b < 2 ^ 64 → b % 2 ^ 63 ≤ 0x7ff0_0000_0000_0000 → 0x7ff0_0000_0000_0000 ≤ b
+        → (b ≡ 0x7ff0_0000_0000_0000 → ⊥) → (b ≡ 2 ^ 63 → ⊥)
         → (b ≡ 2 ^ 63 + (b - 2 ^ 63)) × (0 < b - 2 ^ 63) × (b - 2 ^ 63 ≤ 0x7ff0_0000_0000_0000)
     split b l m a i z = omega arith
 
@@ -53,7 +60,8 @@ negative x h n a i z = go (toBits binary64 x - 2 ^ 63) (split (toBits binary64 x
         subst (λ (y : Float). sqrtOf y ≡ nan) is
         (elim (eq-or-lt-of-le l) [
           | inl q ↦ ap (λ (y : ℕ). sqrtOf (ofBits binary64 (2 ^ 63 + y))) q ∙ minus-infinity
-          | inr q ↦ sqrt-of-negative (ofBits binary64 (2 ^ 63 + r)) (patternUnits r) (2 ^ 1074) (pattern-value true r (2 ^ 63 + r) q refl) (pattern-units-pos r p)
+          | inr q ↦ sqrt-of-negative (ofBits binary64 (2 ^ 63 + r)) (patternUnits r) (2 ^ 1074)
+              (pattern-value true r (2 ^ 63 + r) q refl) (pattern-units-pos r p)
         ])
 
 none : div binary64 (ofBits binary64 0) (ofBits binary64 0) ≡ nan
@@ -67,7 +75,9 @@ float-to-bits-b : tie.Need-float-to-bits-b
 float-to-bits-b c = not-nan (c .before .args .x) (c .if1 .left)
 
 returns-2 : tie.Need-returns-2
-returns-2 c = at-pattern (c .before .before .args .x) 0 (held (c .before .before)) (c .if2 .taken) zero
+returns-2 c =
+    let at-entry = c .before .before in
+    at-pattern (at-entry .args .x) 0 (held at-entry) (c .if2 .taken) zero
 
 root-pattern-requires : tie.Need-root-pattern-requires
 root-pattern-requires c κs = search needs
@@ -76,16 +86,29 @@ float-from-bits-result : tie.Need-float-from-bits-result
 float-from-bits-result c = not-nan-bits (c .root-pattern .result) (let h = c .root-pattern .ensures .0 in omega arith)
 
 returns-3 : tie.Need-returns-3
-returns-3 c = c .root-pattern .ensures .1 ∙ ap sqrtOf (ofBits-toBits binary64 (c .before .before .before .before .args .x) (held (c .before .before .before .before)))
+returns-3 c =
+    let at-entry = c .before .before .before .before in
+    c .root-pattern .ensures .1 ∙ ap sqrtOf (ofBits-toBits binary64 (at-entry .args .x) (held at-entry))
 
 returns-4 : tie.Need-returns-4
-returns-4 c = at-pattern (c .before .before .before .before .args .x) 0x7ff0_0000_0000_0000 (held (c .before .before .before .before)) (c .if4 .taken) infinity
+returns-4 c =
+    let at-entry = c .before .before .before .before in
+    at-pattern (at-entry .args .x) 0x7ff0_0000_0000_0000 (held at-entry) (c .if4 .taken) infinity
 
 returns-5 : tie.Need-returns-5
-returns-5 c = at-pattern (c .before .before .before .before .before .args .x) 0x8000_0000_0000_0000 (held (c .before .before .before .before .before)) (c .if5 .taken) minus-zero
+returns-5 c =
+    let at-if1 = c .before .before .before .before in
+    let at-entry = at-if1 .before in
+    at-pattern (at-entry .args .x) 0x8000_0000_0000_0000 (held at-entry) (c .if5 .taken) minus-zero
 
 returns-6 : tie.Need-returns-6
-returns-6 c = none ∙ sym (negative (c .before .before .before .before .before .args .x) (held (c .before .before .before .before .before)) (not-nan (c .before .before .before .before .before .args .x) (c .before .before .before .before .if1 .left)) (c .before .before .if3 .left) (c .before .if4 .left) (c .if5 .left))
+returns-6 c =
+    let at-if1 = c .before .before .before .before in
+    let at-entry = at-if1 .before in
+    none ∙ sym (negative (at-entry .args .x) (held at-entry) (not-nan (at-entry .args .x) (at-if1 .if1 .left))
+    (c .before .before .if3 .left) (c .before .if4 .left) (c .if5 .left))
 
 pub sqrt-by-digits-spec : {M : Type 1} → statement M
-sqrt-by-digits-spec = tie.close (tie.spec returns float-to-bits-b returns-2 root-pattern-requires float-from-bits-result returns-3 returns-4 returns-5 returns-6)
+sqrt-by-digits-spec =
+    tie.close (tie.spec returns float-to-bits-b returns-2 root-pattern-requires float-from-bits-result returns-3
+    returns-4 returns-5 returns-6)

@@ -16,7 +16,10 @@ float-to-bits-is-cosine : tie.Need-float-to-bits-is-cosine
 float-to-bits-is-cosine c = not-nan-by-eq (c .before .args .candidate) (c .if1 .taken)
 
 returns : tie.Need-returns
-returns c = sym (ofBits-toBits binary64 (c .before .before .before .args .candidate) (held (c .before .before .before))) ∙ c .before .is-cosine .ensures .yes (c .if2 .taken)
+returns c =
+    let at-entry = c .before .before .before in
+    sym (ofBits-toBits binary64 (at-entry .args .candidate) (held at-entry))
+    ∙ c .before .is-cosine .ensures .yes (c .if2 .taken)
 
 float-from-bits-result : tie.Need-float-from-bits-result
 float-from-bits-result c = not-nan-bits _ (omega (arith, c .cosine-pattern .ensures .0))
@@ -25,4 +28,6 @@ returns-2 : tie.Need-returns-2
 returns-2 c = c .cosine-pattern .ensures .1
 
 pub nearest-spec : {M : Type 1} → statement M
-nearest-spec = tie.close (tie.spec float-to-bits-is-cosine (λ c κs. search needs) returns (λ c κs. search needs) float-from-bits-result returns-2)
+nearest-spec =
+    tie.close (tie.spec float-to-bits-is-cosine (λ c κs. search needs) returns
+    (λ c κs. search needs) float-from-bits-result returns-2)

@@ -7,13 +7,26 @@ use Rattle.third_angle_cosine.proofs.third_angle_cosine.Statement.{stat
 use Rattle.third_angle_cosine.proofs.third_angle_cosine.Tie as tie
 
 nearest-requires : tie.Need-nearest-requires
-nearest-requires c κs = let i = subst (Taken (c .before .before .before .before .before .before .args .t)) (c .before .before .before .a2 .given .1) (c .before .before .before .before .before .classify .ensures) in (i .0, i .1, i .2)
+nearest-requires c κs =
+    let after-a2 = c .before .before .before in
+    let at-entry = after-a2 .before .before .before in
+    let i = subst (Taken (at-entry .args .t)) (after-a2 .a2 .given .1) (after-a2 .before .before .classify .ensures) in
+    (i .0, i .1, i .2)
 
 returns : tie.Need-returns
-returns c = subst (Taken (c .before .before .before .before .args .t)) (c .before .a .given .1) (c .before .before .before .classify .ensures) .0
+returns c = subst (Taken (c .before .before .before .before .args .t)) (c .before .a .given .1)
+    (c .before .before .before .classify .ensures) .0
 
 returns-2 : tie.Need-returns-2
-returns-2 c = c .nearest .ensures ∙ ap thirdAngleCosineOf (sym (subst (Taken (c .before .before .before .before .before .before .before .args .t)) (c .before .before .before .before .a2 .given .1) (c .before .before .before .before .before .before .classify .ensures) .3))
+returns-2 c =
+    let after-a2 = c .before .before .before .before in
+    let at-entry = after-a2 .before .before .before in
+    c .nearest .ensures
+    ∙ ap thirdAngleCosineOf
+    (sym (subst (Taken (at-entry .args .t)) (after-a2 .a2 .given .1)
+    (after-a2 .before .before .classify .ensures) .3))
 
 pub third-angle-cosine-spec : {M : Type 1} → statement M
-third-angle-cosine-spec = tie.close (tie.spec (λ c κs. search needs) (λ c. search needs) (λ c. search needs) (λ c κs. search needs) (λ c κs. search needs) nearest-requires returns returns-2)
+third-angle-cosine-spec =
+    tie.close (tie.spec (λ c κs. search needs) (λ c. search needs) (λ c. search needs) (λ c κs. search needs)
+    (λ c κs. search needs) nearest-requires returns returns-2)

@@ -50,31 +50,51 @@ add-t : tie.Need-add-t Inv-loop μ-loop
 add-t c = omega (arith, at c .shifted, at c .twice)
 
 compared-requires : tie.Need-compared-requires Inv-loop μ-loop
-compared-requires c κs = (c .before .before .pre, omega (arith, at c .shifted, at c .twice, pow-pos (c .before .loop .d - 1)))
+compared-requires c κs =
+    (c .before .before .pre, omega (arith, at c .shifted, at c .twice, pow-pos (c .before .loop .d - 1)))
 
 loop-less : tie.Need-loop-less Inv-loop μ-loop
 loop-less c = omega arith
 
 loop-again : tie.Need-loop-again Inv-loop μ-loop
 loop-again c =
+    let at-entry = c .before .before .before .before in
     let l = c .before .before .before .loop in
     let b = at (c .before .before) in
-    rw (b .shifted) (omega arith, omega (arith, b .twice), sym (digit-one (realOf (c .before .before .before .before .args .c)) (l .d - 1) (l .n) (code-ge (realOf (c .before .before .before .before .args .c) (l .n + 2 ^ (l .d - 1))) (c .before .compared .result) (c .before .compared .ensures ∙ ap (λ (x : ℕ). code (realOf (c .before .before .before .before .args .c) (l .n + x))) (b .shifted)) (c .if1 .taken))) ∙ ap (λ (x : ℕ). floorFrom (realOf (c .before .before .before .before .args .c)) x (l .n)) (sym (b .is)) ∙ l .inv .2)
+    rw (b .shifted) (
+      omega arith,
+      omega (arith, b .twice),
+      sym (digit-one (realOf (at-entry .args .c)) (l .d - 1) (l .n)
+          (code-ge (realOf (at-entry .args .c) (l .n + 2 ^ (l .d - 1))) (c .before .compared .result)
+          (c .before .compared .ensures ∙ ap (λ (x : ℕ). code (realOf (at-entry .args .c) (l .n + x))) (b .shifted))
+          (c .if1 .taken))) ∙ ap (λ (x : ℕ). floorFrom (realOf (at-entry .args .c)) x (l .n)) (sym (b .is)) ∙ l .inv .2,
+    )
 
 loop-less-2 : tie.Need-loop-less-2 Inv-loop μ-loop
 loop-less-2 c = omega arith
 
 loop-again-2 : tie.Need-loop-again-2 Inv-loop μ-loop
 loop-again-2 c =
+    let at-entry = c .before .before .before .before in
     let l = c .before .before .before .loop in
-    let b = at (c .before .before) in
-    (omega arith, omega (arith, b .twice), sym (digit-zero (realOf (c .before .before .before .before .args .c)) (l .d - 1) (l .n) (code-less (realOf (c .before .before .before .before .args .c) (l .n + 2 ^ (l .d - 1))) (c .before .compared .result) (c .before .compared .ensures ∙ ap (λ (x : ℕ). code (realOf (c .before .before .before .before .args .c) (l .n + x))) (b .shifted)) (c .if1 .left))) ∙ ap (λ (x : ℕ). floorFrom (realOf (c .before .before .before .before .args .c)) x (l .n)) (sym (b .is)) ∙ l .inv .2)
+    let b = at (c .before .before) in (
+      omega arith,
+      omega (arith, b .twice),
+      sym (digit-zero (realOf (at-entry .args .c)) (l .d - 1) (l .n)
+          (code-less (realOf (at-entry .args .c) (l .n + 2 ^ (l .d - 1))) (c .before .compared .result)
+          (c .before .compared .ensures ∙ ap (λ (x : ℕ). code (realOf (at-entry .args .c) (l .n + x))) (b .shifted))
+          (c .if1 .left))) ∙ ap (λ (x : ℕ). floorFrom (realOf (at-entry .args .c)) x (l .n)) (sym (b .is)) ∙ l .inv .2,
+    )
 
 returns : tie.Need-returns Inv-loop μ-loop
 returns c =
+    let at-entry = c .before .before in
     let l = c .before .loop in
-    let z : l .d ≡ 0 = omega arith in
-    (omega (arith, ap (λ (x : ℕ). 2 ^ x) z), done (realOf (c .before .before .args .c)) (l .n) ∙ ap (λ (x : ℕ). floorFrom (realOf (c .before .before .args .c)) x (l .n)) (sym z) ∙ l .inv .2)
+    let z : l .d ≡ 0 = omega arith in (
+      omega (arith, ap (λ (x : ℕ). 2 ^ x) z),
+      done (realOf (at-entry .args .c)) (l .n)
+          ∙ ap (λ (x : ℕ). floorFrom (realOf (at-entry .args .c)) x (l .n)) (sym z) ∙ l .inv .2,
+    )
 
 pub floor-by-digits-spec : {M : Type 1} → statement M
 floor-by-digits-spec =

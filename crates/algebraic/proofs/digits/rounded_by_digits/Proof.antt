@@ -23,19 +23,43 @@ compared-requires : tie.Need-compared-requires
 compared-requires c κs = search needs
 
 returns : tie.Need-returns
-returns c = rounds-by-floor (realOf (c .before .before .before .args .c)) (c .before .before .before .pre .1) (c .before .before .floor-by-digits .result) (c .before .before .floor-by-digits .ensures .1) _ (sym (ap (nearest (c .before .before .floor-by-digits .result / 2)) (code-less (realOf (c .before .before .before .args .c) (2 * (c .before .before .floor-by-digits .result / 2) + 1)) (c .before .compared .result) (c .before .compared .ensures) (c .if1 .taken))))
+returns c =
+    let after-floor-by-digits = c .before .before in
+    let at-entry = after-floor-by-digits .before in
+    rounds-by-floor (realOf (at-entry .args .c)) (at-entry .pre .1) (after-floor-by-digits .floor-by-digits .result)
+    (after-floor-by-digits .floor-by-digits .ensures .1) _
+    (sym (ap (nearest (after-floor-by-digits .floor-by-digits .result / 2))
+    (code-less (realOf (at-entry .args .c) (2 * (after-floor-by-digits .floor-by-digits .result / 2) + 1))
+    (c .before .compared .result) (c .before .compared .ensures) (c .if1 .taken))))
 
 add-result : tie.Need-add-result
 add-result c = search needs
 
 returns-2 : tie.Need-returns-2
-returns-2 c = rounds-by-floor (realOf (c .before .before .before .before .args .c)) (c .before .before .before .before .pre .1) (c .before .before .before .floor-by-digits .result) (c .before .before .before .floor-by-digits .ensures .1) _ (sym (ap (nearest (c .before .before .before .floor-by-digits .result / 2)) (code-equal (realOf (c .before .before .before .before .args .c) (2 * (c .before .before .before .floor-by-digits .result / 2) + 1)) (c .before .before .compared .result) (c .before .before .compared .ensures) (c .if2 .taken))))
+returns-2 c =
+    let after-compared = c .before .before in
+    let after-floor-by-digits = after-compared .before in
+    let at-entry = after-floor-by-digits .before in
+    rounds-by-floor (realOf (at-entry .args .c)) (at-entry .pre .1) (after-floor-by-digits .floor-by-digits .result)
+    (after-floor-by-digits .floor-by-digits .ensures .1) _
+    (sym (ap (nearest (after-floor-by-digits .floor-by-digits .result / 2))
+    (code-equal (realOf (at-entry .args .c) (2 * (after-floor-by-digits .floor-by-digits .result / 2) + 1))
+    (after-compared .compared .result) (after-compared .compared .ensures) (c .if2 .taken))))
 
 add-result-2 : tie.Need-add-result-2
 add-result-2 c = search needs
 
 returns-3 : tie.Need-returns-3
-returns-3 c = rounds-by-floor (realOf (c .before .before .before .before .args .c)) (c .before .before .before .before .pre .1) (c .before .before .before .floor-by-digits .result) (c .before .before .before .floor-by-digits .ensures .1) _ (add-one (c .before .before .before .floor-by-digits .result / 2) ∙ sym (ap (nearest (c .before .before .before .floor-by-digits .result / 2)) (code-greater (realOf (c .before .before .before .before .args .c) (2 * (c .before .before .before .floor-by-digits .result / 2) + 1)) (c .before .before .compared .result) (c .before .before .compared .ensures) (c .before .if1 .left) (c .if2 .left))))
+returns-3 c =
+    let after-compared = c .before .before in
+    let after-floor-by-digits = after-compared .before in
+    let at-entry = after-floor-by-digits .before in
+    rounds-by-floor (realOf (at-entry .args .c)) (at-entry .pre .1) (after-floor-by-digits .floor-by-digits .result)
+    (after-floor-by-digits .floor-by-digits .ensures .1) _
+    (add-one (after-floor-by-digits .floor-by-digits .result / 2)
+    ∙ sym (ap (nearest (after-floor-by-digits .floor-by-digits .result / 2))
+    (code-greater (realOf (at-entry .args .c) (2 * (after-floor-by-digits .floor-by-digits .result / 2) + 1))
+    (after-compared .compared .result) (after-compared .compared .ensures) (c .before .if1 .left) (c .if2 .left))))
 
 pub rounded-by-digits-spec : {M : Type 1} → statement M
 rounded-by-digits-spec =

@@ -20,7 +20,16 @@ first-guess-requires c κs = omega (arith, and-mask (toBits binary64 (c .before 
 
 returns-2 : tie.Need-returns-2
 unfolding inverseRoot
-returns-2 c = rw (c .before .before .before .before .if1 .left, c .newton3 .ensures, c .before .newton2 .ensures, c .before .before .newton .ensures, c .before .before .before .first-guess .ensures)
+returns-2 c =
+    rw (
+      c .before .before .before .before .if1 .left,
+      c .newton3 .ensures,
+      c .before .newton2 .ensures,
+      c .before .before .newton .ensures,
+      c .before .before .before .first-guess .ensures,
+    )
 
 pub inverse-root-spec : {M : Type 1} → statement M
-inverse-root-spec = tie.close (tie.spec returns float-to-bits-first-guess first-guess-requires (λ c κs. search needs) (λ c κs. search needs) (λ c κs. search needs) returns-2)
+inverse-root-spec =
+    tie.close (tie.spec returns float-to-bits-first-guess first-guess-requires (λ c κs. search needs)
+    (λ c κs. search needs) (λ c κs. search needs) returns-2)

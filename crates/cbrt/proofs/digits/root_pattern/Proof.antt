@@ -17,19 +17,41 @@ shifted k h = omega arith
 
 rounded-by-digits-requires : tie.Need-rounded-by-digits-requires
 rounded-by-digits-requires c κs =
-    let n = c .before .normalized .ensures in
-    (omega arith, in-binade (c .before .normalized .result .significand) ((c .before .normalized .result .exponent + 1022) % 3) (n .normal) (n .fits) (omega arith))
+    let n = c .before .normalized .ensures in (
+      omega arith,
+      in-binade (c .before .normalized .result .significand) ((c .before .normalized .result .exponent + 1022) % 3)
+          (n .normal) (n .fits) (omega arith),
+    )
 
 add-result : tie.Need-add-result
-add-result c = omega (arith, field (c .before .before .normalized .result .exponent) (c .before .before .normalized .ensures .most), rounds-fits (rootOf (c .before .before .normalized .result .significand) ((c .before .before .normalized .result .exponent + 1022) % 3)) (c .rounded-by-digits .result) (c .rounded-by-digits .ensures))
+add-result c =
+    let after-normalized = c .before .before in
+    omega (
+      arith,
+      field (after-normalized .normalized .result .exponent) (after-normalized .normalized .ensures .most),
+      rounds-fits (rootOf (after-normalized .normalized .result .significand)
+          ((after-normalized .normalized .result .exponent + 1022) % 3)) (c .rounded-by-digits .result)
+          (c .rounded-by-digits .ensures),
+    )
 
 returns : tie.Need-returns
 returns c =
-    let f = field (c .before .before .normalized .result .exponent) (c .before .before .normalized .ensures .most) in
-    rw (shifted ((c .before .before .normalized .result .exponent + 1022) / 3) f) (
-      omega (arith, f, rounds-fits (rootOf (c .before .before .normalized .result .significand) ((c .before .before .normalized .result .exponent + 1022) % 3)) (c .rounded-by-digits .result) (c .rounded-by-digits .ensures)),
-      root-pattern (c .before .before .before .args .b) (c .before .before .normalized .result .significand) (c .before .before .normalized .result .exponent) (c .before .before .normalized .ensures) (c .before .before .before .pre .0) (c .before .before .before .pre .1) (c .rounded-by-digits .result) (c .rounded-by-digits .ensures),
+    let after-normalized = c .before .before in
+    let at-entry = after-normalized .before in
+    let f = field (after-normalized .normalized .result .exponent) (after-normalized .normalized .ensures .most) in
+    rw (shifted ((after-normalized .normalized .result .exponent + 1022) / 3) f) (
+      omega (
+        arith,
+        f,
+        rounds-fits (rootOf (after-normalized .normalized .result .significand)
+            ((after-normalized .normalized .result .exponent + 1022) % 3)) (c .rounded-by-digits .result)
+            (c .rounded-by-digits .ensures),
+      ),
+      root-pattern (at-entry .args .b) (after-normalized .normalized .result .significand)
+          (after-normalized .normalized .result .exponent) (after-normalized .normalized .ensures) (at-entry .pre .0)
+          (at-entry .pre .1) (c .rounded-by-digits .result) (c .rounded-by-digits .ensures),
     )
 
 pub root-pattern-spec : {M : Type 1} → statement M
-root-pattern-spec = tie.close (tie.spec (λ c κs. search needs) (λ c. search needs) rounded-by-digits-requires add-result returns)
+root-pattern-spec =
+    tie.close (tie.spec (λ c κs. search needs) (λ c. search needs) rounded-by-digits-requires add-result returns)

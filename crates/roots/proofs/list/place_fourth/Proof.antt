@@ -16,10 +16,14 @@ returns-2 : tie.Need-returns-2
 returns-2 c = fourth-second _ (four (c .before .before)) (c .before .if1 .left) (c .if2 .taken)
 
 returns-3 : tie.Need-returns-3
-returns-3 c = fourth-third _ (four (c .before .before .before)) (c .before .before .if1 .left) (c .before .if2 .left) (c .if3 .taken)
+returns-3 c =
+    fourth-third _ (four (c .before .before .before)) (c .before .before .if1 .left) (c .before .if2 .left)
+    (c .if3 .taken)
 
 returns-4 : tie.Need-returns-4
-returns-4 c = fourth-last _ (four (c .before .before .before)) (c .before .before .if1 .left) (c .before .if2 .left) (c .if3 .left)
+returns-4 c =
+    fourth-last _ (four (c .before .before .before)) (c .before .before .if1 .left) (c .before .if2 .left)
+    (c .if3 .left)
 
 pub place-fourth-spec : {M : Type 1} → statement M
 place-fourth-spec =

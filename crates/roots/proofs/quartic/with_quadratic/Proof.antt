@@ -10,7 +10,16 @@ returns c = rw (← c .before .before .abs .ensures, c .before .if1 .taken, ← 
 
 returns-2 : tie.Need-returns-2
 unfolding withQuadratic
-returns-2 c = rw (← c .before .before .before .before .before .abs .ensures, c .before .before .before .before .if1 .left, c .before .before .before .if2 .taken, ← c .before .before .sqrt .ensures, ← c .before .insert2 .ensures, ← c .insert3 .ensures)
+returns-2 c =
+    let at-if1 = c .before .before .before .before in
+    rw (
+      ← at-if1 .before .abs .ensures,
+      at-if1 .if1 .left,
+      c .before .before .before .if2 .taken,
+      ← c .before .before .sqrt .ensures,
+      ← c .before .insert2 .ensures,
+      ← c .insert3 .ensures,
+    )
 
 returns-3 : tie.Need-returns-3
 unfolding withQuadratic

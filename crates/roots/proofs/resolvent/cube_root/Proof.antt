@@ -6,11 +6,22 @@ use Rattle.roots.proofs.resolvent.cube_root.Tie as tie
 
 returns : tie.Need-returns
 unfolding cubeRoot
-returns c = rw (← c .before .before .before .abs .ensures, ← c .before .before .sqrt .ensures, ← c .before .cbrt .ensures, c .if1 .taken)
+returns c = rw (
+  ← c .before .before .before .abs .ensures,
+  ← c .before .before .sqrt .ensures,
+  ← c .before .cbrt .ensures,
+  c .if1 .taken,
+)
 
 returns-2 : tie.Need-returns-2
 unfolding cubeRoot
-returns-2 c = rw (← c .before .before .before .abs .ensures, ← c .before .before .sqrt .ensures, ← c .before .cbrt .ensures, c .if1 .left)
+returns-2 c =
+    rw (
+      ← c .before .before .before .abs .ensures,
+      ← c .before .before .sqrt .ensures,
+      ← c .before .cbrt .ensures,
+      c .if1 .left,
+    )
 
 pub cube-root-spec : {M : Type 1} → statement M
 cube-root-spec =

@@ -10,7 +10,13 @@ returns c = rw (c .before .if1 .taken, ← c .three-zeros .ensures)
 
 returns-2 : tie.Need-returns-2
 unfolding resolventOf
-returns-2 c = rw (c .before .before .before .if1 .left, ← c .before .before .cube-root .ensures, ← c .before .quotient .ensures, ← c .few-zeros .ensures)
+returns-2 c =
+    rw (
+      c .before .before .before .if1 .left,
+      ← c .before .before .cube-root .ensures,
+      ← c .before .quotient .ensures,
+      ← c .few-zeros .ensures,
+    )
 
 pub solve-resolvent-spec : {M : Type 1} → statement M
 solve-resolvent-spec =

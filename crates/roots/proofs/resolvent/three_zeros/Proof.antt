@@ -6,7 +6,14 @@ use Rattle.roots.proofs.resolvent.three_zeros.Tie as tie
 
 returns : tie.Need-returns
 unfolding threeZeros
-returns c = rw (← c .before .before .before .before .sqrt .ensures, ← c .before .before .before .clamped-ratio .ensures, ← c .before .before .third-angle-pair .ensures .0, ← c .before .before .third-angle-pair .ensures .1)
+returns c =
+    let after-third-angle-pair = c .before .before in
+    rw (
+      ← c .before .before .before .before .sqrt .ensures,
+      ← c .before .before .before .clamped-ratio .ensures,
+      ← after-third-angle-pair .third-angle-pair .ensures .0,
+      ← after-third-angle-pair .third-angle-pair .ensures .1,
+    )
 
 pub three-zeros-spec : {M : Type 1} → statement M
 three-zeros-spec = tie.close (tie.spec (λ c κs. search needs) (λ c κs. search needs) (λ c κs. search needs) returns)

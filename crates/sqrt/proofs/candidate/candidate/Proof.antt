@@ -24,4 +24,6 @@ unfolding candidateOf
 returns c = cc
 
 pub candidate-spec : {M : Type 1} → statement M
-candidate-spec = tie.close (tie.spec first-guess-requires newton-requires newton-requires-2 leading-digits-requires newton-requires-3 returns)
+candidate-spec =
+    tie.close (tie.spec first-guess-requires newton-requires newton-requires-2 leading-digits-requires
+    newton-requires-3 returns)

@@ -14,10 +14,14 @@ add-result-2 c = search needs
 
 -- the parity q is 0 or 1
 even : (n : ℕ) → n < 2 ^ 52 → n + 2 ^ 52 ≡ (n % 2 ^ 52 + 2 ^ 52) * 2 ^ (n / 2 ^ 52)
-even n h = let q : n / 2 ^ 52 ≡ 0 = omega arith in let z : n + 2 ^ 52 ≡ (n % 2 ^ 52 + 2 ^ 52) * 2 ^ 0 = omega arith in z ∙ ap (λ (x : ℕ). (n % 2 ^ 52 + 2 ^ 52) * 2 ^ x) (sym q)
+even n h =
+    let q : n / 2 ^ 52 ≡ 0 = omega arith in let z : n + 2 ^ 52 ≡ (n % 2 ^ 52 + 2 ^ 52) * 2 ^ 0 = omega arith in
+    z ∙ ap (λ (x : ℕ). (n % 2 ^ 52 + 2 ^ 52) * 2 ^ x) (sym q)
 
 odd : (n : ℕ) → 2 ^ 52 ≤ n → n < 2 ^ 53 → n + n ≡ (n % 2 ^ 52 + 2 ^ 52) * 2 ^ (n / 2 ^ 52)
-odd n h g = let q : n / 2 ^ 52 ≡ 1 = omega arith in let z : n + n ≡ (n % 2 ^ 52 + 2 ^ 52) * 2 ^ 1 = omega arith in z ∙ ap (λ (x : ℕ). (n % 2 ^ 52 + 2 ^ 52) * 2 ^ x) (sym q)
+odd n h g =
+    let q : n / 2 ^ 52 ≡ 1 = omega arith in let z : n + n ≡ (n % 2 ^ 52 + 2 ^ 52) * 2 ^ 1 = omega arith in
+    z ∙ ap (λ (x : ℕ). (n % 2 ^ 52 + 2 ^ 52) * 2 ^ x) (sym q)
 
 returns : tie.Need-returns
 returns c = even (c .before .args .digits) (c .if1 .taken)

@@ -23,7 +23,9 @@ returns-2 c = same _ _ _ (c .before .before .whole-root .ensures) (c .if1 .left)
     positive a (Prim.Native.Nat.suc q) r s h = omega arith
 
     same : (a q r : ℕ) → WholeRoot a q r → r ≤ q → 0 < a → NearestRoot a q
-    same a q r s h p = let e = s .sum in let l = s .least in let z = positive a q r s p in record { below = omega arith; above = omega arith }
+    same a q r s h p =
+        let e = s .sum in let l = s .least in let z = positive a q r s p in
+        record { below = omega arith; above = omega arith }
 
 pub nearest-root-spec : {M : Type 1} → statement M
 nearest-root-spec = tie.close (tie.spec whole-root-requires add-result returns returns-2)

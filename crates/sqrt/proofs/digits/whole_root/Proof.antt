@@ -17,25 +17,60 @@ loop-holds : tie.Need-loop-holds Inv-loop μ-loop
 loop-holds c = begins (c .args .m) (c .args .m * 2 ^ 10 % 2 ^ 64) (c .pre) refl
 
 mul-next : tie.Need-mul-next Inv-loop μ-loop
-mul-next c = omega (arith, root-lt (c .before .loop .root) (c .before .loop .counter) (c .before .loop .inv .digits) (c .before .loop .inv .most))
+mul-next c =
+    omega (
+      arith,
+      root-lt (c .before .loop .root) (c .before .loop .counter) (c .before .loop .inv .digits)
+          (c .before .loop .inv .most),
+    )
 
 add-next : tie.Need-add-next Inv-loop μ-loop
-add-next c = omega (arith, root-lt (c .before .loop .root) (c .before .loop .counter) (c .before .loop .inv .digits) (c .before .loop .inv .most))
+add-next c =
+    omega (
+      arith,
+      root-lt (c .before .loop .root) (c .before .loop .counter) (c .before .loop .inv .digits)
+          (c .before .loop .inv .most),
+    )
 
 mul-trial : tie.Need-mul-trial Inv-loop μ-loop
-mul-trial c = omega (arith, root-lt (c .before .loop .root) (c .before .loop .counter) (c .before .loop .inv .digits) (c .before .loop .inv .most))
+mul-trial c =
+    omega (
+      arith,
+      root-lt (c .before .loop .root) (c .before .loop .counter) (c .before .loop .inv .digits)
+          (c .before .loop .inv .most),
+    )
 
 add-trial : tie.Need-add-trial Inv-loop μ-loop
-add-trial c = omega (arith, root-lt (c .before .loop .root) (c .before .loop .counter) (c .before .loop .inv .digits) (c .before .loop .inv .most))
+add-trial c =
+    omega (
+      arith,
+      root-lt (c .before .loop .root) (c .before .loop .counter) (c .before .loop .inv .digits)
+          (c .before .loop .inv .most),
+    )
 
 mul-root : tie.Need-mul-root Inv-loop μ-loop
-mul-root c = omega (arith, root-lt (c .before .before .loop .root) (c .before .before .loop .counter) (c .before .before .loop .inv .digits) (c .before .before .loop .inv .most))
+mul-root c =
+    let at-loop = c .before .before in
+    omega (
+      arith,
+      root-lt (at-loop .loop .root) (at-loop .loop .counter) (at-loop .loop .inv .digits) (at-loop .loop .inv .most),
+    )
 
 add-root : tie.Need-add-root Inv-loop μ-loop
-add-root c = omega (arith, root-lt (c .before .before .loop .root) (c .before .before .loop .counter) (c .before .before .loop .inv .digits) (c .before .before .loop .inv .most))
+add-root c =
+    let at-loop = c .before .before in
+    omega (
+      arith,
+      root-lt (at-loop .loop .root) (at-loop .loop .counter) (at-loop .loop .inv .digits) (at-loop .loop .inv .most),
+    )
 
 mul-root-2 : tie.Need-mul-root-2 Inv-loop μ-loop
-mul-root-2 c = omega (arith, root-lt (c .before .before .loop .root) (c .before .before .loop .counter) (c .before .before .loop .inv .digits) (c .before .before .loop .inv .most))
+mul-root-2 c =
+    let at-loop = c .before .before in
+    omega (
+      arith,
+      root-lt (at-loop .loop .root) (at-loop .loop .counter) (at-loop .loop .inv .digits) (at-loop .loop .inv .most),
+    )
 
 add-counter : tie.Need-add-counter Inv-loop μ-loop
 add-counter c = omega arith
@@ -44,10 +79,17 @@ loop-less : tie.Need-loop-less Inv-loop μ-loop
 loop-less c = omega arith
 
 loop-again : tie.Need-loop-again Inv-loop μ-loop
-loop-again c = ⊎-elim (λ w. rw (w .1, w .2) (one _ _ _ _ _ (c .before .before .loop .inv) (c .before .loop-test .taken) (w .0 .taken))) (λ w. rw (w .1, w .2) (none _ _ _ _ _ (c .before .before .loop .inv) (c .before .loop-test .taken) (w .0 .left))) (c .if1 .came)
+loop-again c =
+    let at-loop = c .before .before in
+    ⊎-elim (λ w. rw (w .1, w .2) (one _ _ _ _ _ (at-loop .loop .inv) (c .before .loop-test .taken) (w .0 .taken)))
+    (λ w. rw (w .1, w .2) (none _ _ _ _ _ (at-loop .loop .inv) (c .before .loop-test .taken) (w .0 .left)))
+    (c .if1 .came)
 
 returns : tie.Need-returns Inv-loop μ-loop
-returns c = record { sum = ends _ _ _ _ _ (c .before .loop .inv) (c .loop-test .left); least = c .before .loop .inv .least }
+returns c = record {
+  sum = ends _ _ _ _ _ (c .before .loop .inv) (c .loop-test .left);
+  least = c .before .loop .inv .least;
+}
 
 pub whole-root-spec : {M : Type 1} → statement M
 whole-root-spec =

@@ -30,7 +30,8 @@ returns-3 c = record {
 }
 
 between-requires : tie.Need-between-requires
-between-requires c κs = (omega arith, omega arith, omega arith, c .target .ensures .high-fits, c .target .ensures .low-fits)
+between-requires c κs =
+    (omega arith, omega arith, omega arith, c .target .ensures .high-fits, c .target .ensures .low-fits)
 
 -- there is one number 1 + t
 one-plus : (sign t e f : ℕ) → IsOnePlus sign t e → IsOnePlus sign t f → e ≡ f
@@ -39,17 +40,26 @@ one-plus (suc sign) t e f p q = omega arith
 
 returns-4 : tie.Need-returns-4
 returns-4 c =
-    let s = c .before .before .before .before .before in
-    let h = s .args .c - 0x3fe0_0000_0000_0000 in
+    let at-if1 = c .before .before .before .before in
+    let at-entry = at-if1 .before in
+    let sign = at-entry .args .sign in
+    let h = at-entry .args .c - 0x3fe0_0000_0000_0000 in
     record {
       yes =
           λ e.
-          ap (ofBits binary64) (let z : s .args .c ≡ 0x3fd0_0000_0000_0000 + (2 ^ 52 + (s .args .c - 0x3fe0_0000_0000_0000)) = omega arith in z)
-          ∙ rounded-pattern (s .args .sign) (s .args .m) (s .pre .0) (s .pre .2) (s .pre .1) (2 ^ 52 + h)
-          (certified (s .args .sign) (s .args .m) (s .pre .0) (s .pre .2) _ h (c .before .before .before .before .if1 .left) (omega arith) (omega arith)
+          ap (ofBits binary64)
+          (let z : at-entry .args .c
+          ≡ 0x3fd0_0000_0000_0000 + (2 ^ 52 + (at-entry .args .c - 0x3fe0_0000_0000_0000)) = omega arith in z)
+          ∙ rounded-pattern sign (at-entry .args .m) (at-entry .pre .0) (at-entry .pre .2) (at-entry .pre .1)
+          (2 ^ 52 + h)
+          (certified sign (at-entry .args .m) (at-entry .pre .0) (at-entry .pre .2) _ h (at-if1 .if1 .left)
+          (omega arith) (omega arith)
           (c .before .target .ensures .value) (c .between .ensures .yes e));
-      sure = λ t l g e o w. c .between .ensures .sure (subst (WellBetween 3 (2 * h)) (one-plus (s .args .sign) _ e _ o (c .before .target .ensures .value)) w);
+      sure = λ t l g e o w. c .between .ensures .sure
+          (subst (WellBetween 3 (2 * h)) (one-plus sign _ e _ o (c .before .target .ensures .value)) w);
     }
 
-pub is-third-angle-cosine-spec : {M : Type 1} → statement M
-is-third-angle-cosine-spec = tie.close (tie.spec returns returns-2 returns-3 (λ c κs. search needs) (λ c. search needs) (λ c. search needs) between-requires returns-4)
+pub is-cosine-spec : {M : Type 1} → statement M
+is-cosine-spec =
+    tie.close (tie.spec returns returns-2 returns-3 (λ c κs. search needs) (λ c. search needs)
+    (λ c. search needs) between-requires returns-4)

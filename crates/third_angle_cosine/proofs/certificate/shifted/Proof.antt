@@ -13,7 +13,8 @@ use Rattle.third_angle_cosine.proofs.certificate.shifted.Tie as tie
 
 module _ (n y : ℕ) (fits : n < 2 ^ 53) (h : y < 54) where
   most : n * 2 ^ y < 2 ^ 106
-  most = lt-of-lt-of-le (mul-lt-mul-of-pos-right fits (pow-pos y)) (le-trans (le-of-eq (sym (pow-add 2 53 y))) (pow-mono (let z : 53 + y ≤ 106 = omega arith in z)))
+  most = lt-of-lt-of-le (mul-lt-mul-of-pos-right fits (pow-pos y))
+      (le-trans (le-of-eq (sym (pow-add 2 53 y))) (pow-mono (let z : 53 + y ≤ 106 = omega arith in z)))
 
   limbs : Shifted n y (n / 2 ^ (54 - y)) (n * 2 ^ y % 2 ^ 64 % 2 ^ 54)
   limbs =
@@ -26,7 +27,8 @@ module _ (n y : ℕ) (fits : n < 2 ^ 53) (h : y < 54) where
       }
 
 returns : tie.Need-returns
-returns c = rw (and-mask (c .args .significand * 2 ^ c .args .shift % 2 ^ 64) 54) (limbs (c .args .significand) (c .args .shift) (c .pre .0) (c .pre .1))
+returns c = rw (and-mask (c .args .significand * 2 ^ c .args .shift % 2 ^ 64) 54)
+    (limbs (c .args .significand) (c .args .shift) (c .pre .0) (c .pre .1))
 
 pub shifted-spec : {M : Type 1} → statement M
 shifted-spec = tie.close (tie.spec (λ c. search needs) (λ c. search needs) (λ c. search needs) returns)

@@ -26,7 +26,15 @@ compared-requires : tie.Need-compared-requires Inv-loop μ-loop
 compared-requires c κs = ((omega arith, omega arith, omega arith, omega arith), omega arith)
 
 returns : tie.Need-returns Inv-loop μ-loop
-returns c = (omega arith, omega arith, found (c .before .before .before .before .args .high * 2 ^ 64 + c .before .before .before .before .args .low) (c .before .before .before .loop .e) (code-ge (scaled 0 (c .before .before .before .before .args .high * 2 ^ 64 + c .before .before .before .before .args .low) (c .before .before .before .loop .e) (2 ^ 53)) (c .before .compared .result) (c .before .compared .ensures) (c .if1 .taken)) (c .before .before .before .loop .inv .2))
+returns c =
+    let at-loop = c .before .before .before in
+    let at-entry = at-loop .before in (
+      omega arith,
+      omega arith,
+      found (at-entry .args .high * 2 ^ 64 + at-entry .args .low) (at-loop .loop .e)
+          (code-ge (scaled 0 (at-entry .args .high * 2 ^ 64 + at-entry .args .low) (at-loop .loop .e) (2 ^ 53))
+          (c .before .compared .result) (c .before .compared .ensures) (c .if1 .taken)) (at-loop .loop .inv .2),
+    )
 
 add-e : tie.Need-add-e Inv-loop μ-loop
 add-e c = omega arith
@@ -35,12 +43,32 @@ loop-less : tie.Need-loop-less Inv-loop μ-loop
 loop-less c = omega arith
 
 loop-again : tie.Need-loop-again Inv-loop μ-loop
-loop-again c = (omega arith, omega arith, ap (λ (x : ℕ). scaled 0 (c .before .before .before .before .args .high * 2 ^ 64 + c .before .before .before .before .args .low) x (2 ^ 54)) (add-one (c .before .before .before .loop .e)) ∙ next-binade (c .before .before .before .before .args .high * 2 ^ 64 + c .before .before .before .before .args .low) (c .before .before .before .loop .e) (code-less (scaled 0 (c .before .before .before .before .args .high * 2 ^ 64 + c .before .before .before .before .args .low) (c .before .before .before .loop .e) (2 ^ 53)) (c .before .compared .result) (c .before .compared .ensures) (c .if1 .left)))
+loop-again c =
+    let at-loop = c .before .before .before in
+    let at-entry = at-loop .before in
+    let high = at-entry .args .high in
+    let low = at-entry .args .low in (
+      omega arith,
+      omega arith,
+      ap (λ (x : ℕ). scaled 0 (high * 2 ^ 64 + low) x (2 ^ 54)) (add-one (at-loop .loop .e))
+          ∙ next-binade (high * 2 ^ 64 + low) (at-loop .loop .e)
+          (code-less (scaled 0 (high * 2 ^ 64 + low) (at-loop .loop .e) (2 ^ 53)) (c .before .compared .result)
+          (c .before .compared .ensures) (c .if1 .left)),
+    )
 
 returns-2 : tie.Need-returns-2 Inv-loop μ-loop
 returns-2 c =
-    let z : c .before .loop .e ≡ 27 = omega arith in
-    (omega arith, omega arith, found (c .before .before .args .high * 2 ^ 64 + c .before .before .args .low) (c .before .loop .e) (subst (λ (x : ℕ). AtMost (2 ^ 53) (scaled 0 (c .before .before .args .high * 2 ^ 64 + c .before .before .args .low) x)) (sym z) (above-least (c .before .before .args .high * 2 ^ 64 + c .before .before .args .low) (c .before .before .pre .1))) (c .before .loop .inv .2))
+    let at-entry = c .before .before in
+    let high = at-entry .args .high in
+    let low = at-entry .args .low in
+    let z : c .before .loop .e ≡ 27 = omega arith in (
+      omega arith,
+      omega arith,
+      found (high * 2 ^ 64 + low) (c .before .loop .e)
+          (subst (λ (x : ℕ). AtMost (2 ^ 53) (scaled 0 (high * 2 ^ 64 + low) x)) (sym z)
+          (above-least (high * 2 ^ 64 + low) (at-entry .pre .1))) (c .before .loop .inv .2),
+    )
 
 pub binade-spec : {M : Type 1} → statement M
-binade-spec = tie.close (tie.spec Inv-loop μ-loop loop-holds compared-requires returns add-e loop-less loop-again returns-2)
+binade-spec =
+    tie.close (tie.spec Inv-loop μ-loop loop-holds compared-requires returns add-e loop-less loop-again returns-2)

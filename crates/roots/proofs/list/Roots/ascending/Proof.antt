@@ -18,18 +18,34 @@ returns c = rw (few-sorted _ (c .if1 .taken) _ (four (c .before)))
 
 returns-2 : tie.Need-returns-2
 unfolding ascendingOf
-returns-2 c = rw (two-sorted _ (c .if2 .taken) _ (four (c .before .before .before .before)), c .before .place-second .ensures)
+returns-2 c =
+    rw (two-sorted _ (c .if2 .taken) _ (four (c .before .before .before .before)), c .before .place-second .ensures)
 
 returns-3 : tie.Need-returns-3
 unfolding ascendingOf
-returns-3 c = rw (three-sorted _ (c .if3 .taken) _ (four (c .before .before .before .before .before .before)), c .before .place-third .ensures, c .before .before .before .place-second .ensures)
+returns-3 c =
+    let after-place-second = c .before .before .before in
+    let at-entry = after-place-second .before .before .before in
+    rw (
+      three-sorted _ (c .if3 .taken) _ (four at-entry),
+      c .before .place-third .ensures,
+      after-place-second .place-second .ensures,
+    )
 
 returns-4 : tie.Need-returns-4
 unfolding ascendingOf
 returns-4 c =
-    let full : 4 ≤ c .before .before .before .before .before .before .before .args .self .count = omega arith in
-    rw (four-sorted _ full _ (four (c .before .before .before .before .before .before .before)), c .place-fourth .ensures, c .before .before .place-third .ensures, c .before .before .before .before .place-second .ensures)
+    let after-place-second = c .before .before .before .before in
+    let at-entry = after-place-second .before .before .before in
+    let full : 4 ≤ at-entry .args .self .count = omega arith in
+    rw (
+      four-sorted _ full _ (four at-entry),
+      c .place-fourth .ensures,
+      c .before .before .place-third .ensures,
+      after-place-second .place-second .ensures,
+    )
 
 pub ascending-spec : {M : Type 1} → statement M
 ascending-spec =
-    tie.close (tie.spec returns (λ c κs. search needs) returns-2 (λ c κs. search needs) returns-3 (λ c κs. search needs) returns-4)
+    tie.close (tie.spec returns (λ c κs. search needs) returns-2 (λ c κs. search needs) returns-3
+    (λ c κs. search needs) returns-4)
