@@ -11,7 +11,8 @@ use Rattle.doubles.specs.Operators.{_==ᶠ_, at}
 use Rattle.buffer_test.specs.Records.{minus1ᶠ}
 use Rattle.buffer_test.specs.Lines.{isUnchanged}
 
-pub one-more : (l : List Float) (i : ℕ) → i < length l → isUnchanged (drop i l) ≡ ((at l i ==ᶠ minus1ᶠ) && isUnchanged (drop (i + 1) l))
+pub one-more : (l : List Float) (i : ℕ) → i < length l
+    → isUnchanged (drop i l) ≡ ((at l i ==ᶠ minus1ᶠ) && isUnchanged (drop (i + 1) l))
 unfolding isUnchanged
 one-more l i h = rw (add-one, drop-cons l i nan h)
 

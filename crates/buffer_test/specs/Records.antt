@@ -1,11 +1,25 @@
--- What the bytes of a record mean: how many doubles of the move are handed over and how many the plan's buffer has, a byte each, then 16 doubles, the move's first, and a
--- time. Definitions only.
-use Prim.Native.Nat.{ℕ, min}
+-- What the bytes of a record mean: how many doubles of the move are handed over and how many the plan's buffer has, a
+-- byte each, then as many doubles as can be handed over, the move's first, and a time. Definitions only.
+use Prim.Native.Nat.{ℕ, _+_, _*_, min}
 use mathlib.Core.List.{List, [], _∷_}
 use lib.ListN.{getD, take, replicate}
 use lib.Ieee.{Float, neg}
 use Rattle.doubles.specs.Constants.{1ᶠ}
 use Rattle.encoding.specs.Encoding.{doubleAt}
+
+-- the most doubles of a move that are handed over, and the most that a buffer has
+abbrev pub moveMost : ℕ
+moveMost = 16
+
+abbrev pub bufferMost : ℕ
+bufferMost = 200
+
+-- where the time stands, and how long a record is
+abbrev pub timeAt : ℕ
+timeAt = 2 + 8 * moveMost
+
+abbrev pub recordLength : ℕ
+recordLength = timeAt + 8
 
 abbrev pub minus1ᶠ : Float
 minus1ᶠ = neg 1ᶠ
@@ -30,13 +44,13 @@ doublesOf b =
     ∷ doubleAt b 122
     ∷ []
 
--- what is handed over of the move, at most 16 doubles
+-- what is handed over of the move
 unfoldable pub moveOf : List ℕ → List Float
-moveOf b = take (min (getD b 0 0) 16) (doublesOf b)
+moveOf b = take (min (getD b 0 0) moveMost) (doublesOf b)
 
--- the buffer before planning, at most 200 doubles: every one is -1
+-- the buffer before planning: every double is -1
 unfoldable pub bufferOf : List ℕ → List Float
-bufferOf b = take (min (getD b 1 0) 200) (replicate 200 minus1ᶠ)
+bufferOf b = take (min (getD b 1 0) bufferMost) (replicate bufferMost minus1ᶠ)
 
 abbrev pub timeOf : List ℕ → Float
-timeOf b = doubleAt b 130
+timeOf b = doubleAt b timeAt

@@ -30,7 +30,8 @@ at-most-twenty n r h f = by-test (leb r 20) refl
     by-test true e = leb-true r 20 e
     by-test false e =
         let more : 20 < r = leb-false r 20 e in
-        let large : 10 ^ 20 ≤ n = le-trans (pow-le-pow-right {n = 10} (omega arith) {i = 20} {j = r - 1} (omega arith)) (f .2 (omega arith)) in
+        let large : 10 ^ 20 ≤ n = le-trans (pow-le-pow-right {n = 10} (omega arith) {i = 20} {j = r - 1} (omega arith))
+        (f .2 (omega arith)) in
         absurd (let none : ⊥ = omega arith in none)
 
 -- the fewest digits are those of the definition

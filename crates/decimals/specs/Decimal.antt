@@ -1,5 +1,5 @@
 -- Whole numbers in decimal. Definitions only.
-use Prim.Native.Nat.{ℕ, zero, suc, _^_}
+use Prim.Native.Nat.{ℕ, zero, suc, _+_, _^_}
 use mathlib.Core.Bool.{cond}
 use mathlib.Core.List.{List}
 use lib.Dec.{ltb}
@@ -13,3 +13,10 @@ leastFrom k (suc more) n = cond (ltb n (10 ^ k)) k (leastFrom (suc k) more n)
 -- the decimal digits of a number below 10^20, with no zero in front
 unfoldable pub decimal : ℕ → List ℕ
 decimal n = digits 10 (leastFrom 1 19 n) n
+
+-- how many digits a word may have, and with a space in front
+abbrev pub decimalWidth : ℕ
+decimalWidth = 20
+
+abbrev pub numberWidth : ℕ
+numberWidth = 1 + decimalWidth

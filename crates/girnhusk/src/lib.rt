@@ -1,24 +1,26 @@
-// What programs in C and Rust link: the functions of the archive libarchive.a, with plain numbers for arguments.
+// What programs in C and Rust link: the functions of the archive libgirnhusk.a, with plain numbers for arguments.
 ghost use mathlib.Core.Path.{_≡_};
 ghost use Rattle.elementary.specs.Functions.{sqrtOf, cbrtOf, thirdAngleCosineOf, thirdAngleSineOf};
 ghost use Rattle.plan_buffer.specs.Buffers.{Planned, Asked};
 
 // Plans a move. `mv` holds 13 doubles: p0 v0 a0 pf vf af v_max v_min a_max a_min j_max brake accel.
-// 0: planned, and the first 166 doubles of `plan` hold the plan. 1 to 5: refused, document 01's number. 9: `mv` has not 13 doubles, or `plan` fewer than 166.
+// 0: planned, and the first 166 doubles of `buffer` hold the plan. 1 to 5: refused, document 01's number.
+// 255: `mv` has not 13 doubles, or `buffer` fewer than 166.
 // Nothing is written unless 0 is returned; what lies beyond the plan is never written.
 #[no_mangle]
-pub extern "C" fn girnhusk_plan(mv: &[f64], plan: &mut [f64]) -> u64
-    ensures { λ r. ⌜ Planned (now (mv .entry)) (now (plan .entry)) r (now (plan .exit)) ⌝ }
+pub extern "C" fn girnhusk_plan(mv: &[f64], buffer: &mut [f64]) -> u64
+    ensures { λ r. ⌜ Planned (now (mv .entry)) (now (buffer .entry)) r (now (buffer .exit)) ⌝ }
 {
-    plan_buffer::plan(mv, plan)
+    plan_buffer::plan(mv, buffer)
 }
 
-// Whether a duration is blocked by a plan that girnhusk_plan wrote. 0: free. 1: blocked. 6: t isn't finite. 9: `plan` has fewer than 166 doubles.
+// Whether a duration is blocked by the plan that girnhusk_plan wrote into a buffer.
+// 0: free. 1: blocked. 6: t isn't finite. 255: `buffer` has fewer than 166 doubles.
 #[no_mangle]
-pub extern "C" fn girnhusk_is_blocked(plan: &[f64], t: f64) -> u64
-    ensures { λ r. ⌜ Asked (now (plan .entry)) t r ⌝ }
+pub extern "C" fn girnhusk_is_blocked(buffer: &[f64], t: f64) -> u64
+    ensures { λ r. ⌜ Asked (now (buffer .entry)) t r ⌝ }
 {
-    plan_buffer::is_blocked(plan, t)
+    plan_buffer::is_blocked(buffer, t)
 }
 
 // The elementary functions as the planner uses them.

@@ -1,3 +1,4 @@
 -- The laws of `moves`.
-pub mod RecordLaws
 pub mod CountLaws
+pub mod DoublesLaws
+pub mod RecordLaws

@@ -1,4 +1,5 @@
--- What the bytes of a record mean: a two-byte length of 105, version 1, then 13 doubles, the highest byte of each number first. Definitions only.
+-- What the bytes of a record mean: a two-byte length, a version, then the move's doubles in the order of its layout,
+-- the highest byte of each number first. Definitions only.
 use Prim.Native.Nat.{ℕ, _+_, _*_}
 use mathlib.Core.Path.{_≡_}
 use mathlib.Core.Bool.{Bool, true, false, not, cond, _||_}
@@ -9,40 +10,43 @@ use lib.Dec.{eqb, ltb}
 use lib.ListN.{length, getD}
 use lib.Ieee.{Float}
 use Rattle.encoding.specs.Encoding.{doubleAt}
-use Rattle.profile.specs.declared.Start.{Start}
-use Rattle.profile.specs.declared.Target.{Target}
-use Rattle.profile.specs.declared.Limits.{Limits}
+use Rattle.profile.specs.Layout.{firsts}
 use Rattle.block.specs.Blocks.{refused}
 use Rattle.block.specs.declared.Answer.{Answer}
+use Rattle.planner.specs.Layout.{moveLength, moveOf}
 use Rattle.planner.specs.Answers.{answerOf}
 use Rattle.planner.specs.declared.Move.{Move}
 use Rattle.moves.specs.declared.Record.{Record}
 use Rattle.moves.specs.declared.Record.the-variants.{End, Malformed, Whole}
 
+-- what the length says, 105: the version and the doubles; and a whole record, 107
+abbrev pub recordBody : ℕ
+recordBody = 1 + 8 * moveLength
+
+abbrev pub recordLength : ℕ
+recordLength = 2 + recordBody
+
+abbrev pub recordVersion : ℕ
+recordVersion = 1
+
 -- double number i of the record; every NaN's pattern is the one NaN
 unfoldable pub double : List ℕ → ℕ → Float
 double b i = doubleAt b (3 + 8 * i)
 
--- ---- p0 v0 a0 pf vf af v_max v_min a_max a_min j_max brake accel
-unfoldable pub startOf : List ℕ → Start
-startOf b = record { p0 = double b 0; v0 = double b 1; a0 = double b 2 }
-
-unfoldable pub targetOf : List ℕ → Target
-targetOf b = record { pf = double b 3; vf = double b 4; af = double b 5 }
-
-unfoldable pub limitsOf : List ℕ → Limits
-limitsOf b = record { «v_max» = double b 6; «v_min» = double b 7; «a_max» = double b 8; «a_min» = double b 9; «j_max» = double b 10 }
-
-unfoldable pub moveOf : List ℕ → Move
-moveOf b = record { start = startOf b; target = targetOf b; limits = limitsOf b; brake = double b 11; accel = double b 12 }
+-- the move of its doubles
+unfoldable pub recordMove : List ℕ → Move
+recordMove b = moveOf (firsts moveLength (double b))
 
 -- the input ends inside the record, or its length or version is wrong
 unfoldable pub isMalformed : List ℕ → Bool
-isMalformed b = ltb (length b) 107 || not (eqb (getD b 0 0 * 256 + getD b 1 0) 105) || not (eqb (getD b 2 0) 1)
+isMalformed b =
+    ltb (length b) recordLength
+    || not (eqb (getD b 0 0 * 256 + getD b 1 0) recordBody)
+    || not (eqb (getD b 2 0) recordVersion)
 
 -- the record that these bytes, the input's next, begin with
 unfoldable pub recordOf : List ℕ → Record
-recordOf b = cond (eqb (length b) 0) End (cond (isMalformed b) Malformed (Whole (moveOf b)))
+recordOf b = cond (eqb (length b) 0) End (cond (isMalformed b) Malformed (Whole (recordMove b)))
 
 -- ---- document 01's answer and number for each case of a record
 
@@ -57,7 +61,8 @@ abbrev pub numberOf : Option Answer → Option ℕ
 numberOf none = none
 numberOf (some r) = some (r .refusal)
 
--- what is read of the bytes b: the definition's record, whose number is 8 if and only if there are bytes and they begin with no record
+-- what is read of the bytes b: the definition's record, whose number is 8 if and only if there are bytes and they begin
+-- with no record
 pub record Reads (b : List ℕ) (r : Record) : Type 0 where
   pub record-is : r ≡ recordOf b
   pub eight : (numberOf (answerTo r) ≡ some 8) ↔ ((eqb (length b) 0 ≡ false) × (isMalformed b ≡ true))

@@ -6,7 +6,9 @@ ghost use Rattle.profile_lines.specs.Text.{Puts};
 ghost use Rattle.profile_lines.specs.Fields.{field, doubleFields};
 ghost use Rattle.block.specs.Blocks.{countOf, endsOf};
 ghost use Rattle.decimals.specs.Decimal.{decimal};
+ghost use Rattle.stretch_lines.specs.Kinds.{bothEndsWidth};
 ghost use Rattle.moves.specs.Lines.{stretchFields, planFields, refusalFields, intervalFields, fullFields};
+ghost use Rattle.moves.specs.Lines.{countWidth, stretchesWidth, planWidth, refusalWidth, intervalWidth, fullWidth};
 use block::Block;
 use block::Interval;
 use block::Stretch;
@@ -21,15 +23,15 @@ use stretch_lines::put_kind;
 
 // How many stretches there are: 0, 1 or 2.
 fn put_count(out: &mut [u8], at: usize, a: Stretch, b: Stretch) -> usize
-    requires { ⌜ at + 2 ≤ length (now out) ⌝ }
-    ensures { λ r. ⌜ Puts (now (out .entry)) (now (out .exit)) at r (field (decimal (countOf a + countOf b))) 2 ⌝ }
+    requires { ⌜ at + countWidth ≤ length (now out) ⌝ }
+    ensures { λ r. ⌜ Puts (now (out .entry)) (now (out .exit)) at r (field (decimal (countOf a + countOf b))) countWidth ⌝ }
 {
     put(out, at, &[b' ', b'0' + (a.count() + b.count())])
 }
 
 fn put_ends(out: &mut [u8], at: usize, s: Stretch) -> usize
-    requires { ⌜ at + 34 ≤ length (now out) ⌝ }
-    ensures { λ r. ⌜ Puts (now (out .entry)) (now (out .exit)) at r (doubleFields (endsOf s)) 34 ⌝ }
+    requires { ⌜ at + bothEndsWidth ≤ length (now out) ⌝ }
+    ensures { λ r. ⌜ Puts (now (out .entry)) (now (out .exit)) at r (doubleFields (endsOf s)) bothEndsWidth ⌝ }
 {
     match s {
         Stretch::Nothing => at,
@@ -39,8 +41,8 @@ fn put_ends(out: &mut [u8], at: usize, s: Stretch) -> usize
 }
 
 fn put_stretches(out: &mut [u8], at: usize, a: Stretch, b: Stretch) -> usize
-    requires { ⌜ at + 70 ≤ length (now out) ⌝ }
-    ensures { λ r. ⌜ Puts (now (out .entry)) (now (out .exit)) at r (stretchFields a b) 70 ⌝ }
+    requires { ⌜ at + stretchesWidth ≤ length (now out) ⌝ }
+    ensures { λ r. ⌜ Puts (now (out .entry)) (now (out .exit)) at r (stretchFields a b) stretchesWidth ⌝ }
 {
     let count_end = put_count(out, at, a, b);
     let a_end = put_ends(out, count_end, a);
@@ -49,8 +51,8 @@ fn put_stretches(out: &mut [u8], at: usize, a: Stretch, b: Stretch) -> usize
 
 // What document 01 has of a plan.
 pub fn put_plan(out: &mut [u8], at: usize, x: Block) -> usize
-    requires { ⌜ at + 107 ≤ length (now out) ⌝ }
-    ensures { λ r. ⌜ Puts (now (out .entry)) (now (out .exit)) at r (planFields x) 107 ⌝ }
+    requires { ⌜ at + planWidth ≤ length (now out) ⌝ }
+    ensures { λ r. ⌜ Puts (now (out .entry)) (now (out .exit)) at r (planFields x) planWidth ⌝ }
 {
     let p_min = x.p_min;
     let direction = p_min.direction;
@@ -67,8 +69,8 @@ pub fn put_plan(out: &mut [u8], at: usize, x: Block) -> usize
 }
 
 pub fn put_refusal(out: &mut [u8], at: usize, number: u64) -> usize
-    requires { ⌜ at + 29 ≤ length (now out) ⌝ }
-    ensures { λ r. ⌜ Puts (now (out .entry)) (now (out .exit)) at r (refusalFields number) 29 ⌝ }
+    requires { ⌜ at + refusalWidth ≤ length (now out) ⌝ }
+    ensures { λ r. ⌜ Puts (now (out .entry)) (now (out .exit)) at r (refusalFields number) refusalWidth ⌝ }
 {
     let refused_end = put(out, at, b" refused");
     put_number(out, refused_end, number)
@@ -76,8 +78,8 @@ pub fn put_refusal(out: &mut [u8], at: usize, number: u64) -> usize
 
 // A stretch and the profile beside it.
 fn put_interval(out: &mut [u8], at: usize, i: Interval) -> usize
-    requires { ⌜ at + 914 ≤ length (now out) ⌝ }
-    ensures { λ r. ⌜ Puts (now (out .entry)) (now (out .exit)) at r (intervalFields i) 914 ⌝ }
+    requires { ⌜ at + intervalWidth ≤ length (now out) ⌝ }
+    ensures { λ r. ⌜ Puts (now (out .entry)) (now (out .exit)) at r (intervalFields i) intervalWidth ⌝ }
 {
     let stretch = i.stretch;
     let profile = i.profile;
@@ -88,8 +90,8 @@ fn put_interval(out: &mut [u8], at: usize, i: Interval) -> usize
 
 // All that a plan holds.
 pub fn put_full_plan(out: &mut [u8], at: usize, x: Block) -> usize
-    requires { ⌜ at + 2720 ≤ length (now out) ⌝ }
-    ensures { λ r. ⌜ Puts (now (out .entry)) (now (out .exit)) at r (fullFields x) 2720 ⌝ }
+    requires { ⌜ at + fullWidth ≤ length (now out) ⌝ }
+    ensures { λ r. ⌜ Puts (now (out .entry)) (now (out .exit)) at r (fullFields x) fullWidth ⌝ }
 {
     let p_min = x.p_min;
     let a = x.a;

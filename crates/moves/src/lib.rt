@@ -5,9 +5,12 @@ mod fields; // fields.rt: the fields of a line that aren't a profile's
 mod lines; // lines.rt: the line of an answer
 mod replies; // replies.rt: from the bytes of a record to the bytes of its line
 
+pub use lines::FULL_LINE_LENGTH;
+pub use lines::LINE_LENGTH;
 pub use lines::full_line;
 pub use lines::line;
 use planner::Move;
+pub use records::RECORD_LENGTH;
 pub use records::read_record;
 pub use replies::full_reply_to;
 pub use replies::reply_to;

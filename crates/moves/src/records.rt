@@ -1,83 +1,60 @@
-// Reading a record: a two-byte length of 105, version 1, then 13 doubles, the highest byte of each number first.
+// Reading a record: a two-byte length, a version, then the move's doubles in the order of its layout, the highest byte
+// of each number first.
 
 ghost use mathlib.Core.Path.{_≡_};
 ghost use Prim.Native.Nat.{_+_, _*_, _<_, _≤_};
 ghost use lib.ListN.{length};
-ghost use Rattle.moves.specs.Records.{double, startOf, targetOf, limitsOf, moveOf, isMalformed, Reads};
+ghost use Rattle.profile.specs.Layout.{firsts};
+ghost use Rattle.planner.specs.Layout.{moveLength};
+ghost use Rattle.moves.specs.Records.{recordBody, recordLength, recordVersion, double, recordMove, isMalformed, Reads};
 use crate::Record;
 use encoding::byte_at;
 use encoding::double_at;
+use planner::MOVE_LENGTH;
 use planner::Move;
-use profile::Limits;
-use profile::Start;
-use profile::Target;
+
+// What the length says: the version and the doubles.
+const RECORD_BODY: usize = 1 + 8 * MOVE_LENGTH;
+
+pub const RECORD_LENGTH: usize = 2 + RECORD_BODY;
+
+const RECORD_VERSION: usize = 1;
 
 // Double number i of a whole record.
 fn double(b: &[u8], i: usize) -> f64
-    requires { ⌜ (i < 13) × (107 ≤ length (now b)) ⌝ }
+    requires { ⌜ (i < moveLength) × (recordLength ≤ length (now b)) ⌝ }
     ensures { λ r. ⌜ r ≡ double (now (b .entry)) i ⌝ }
 {
     double_at(b, 3 + 8 * i)
 }
 
-fn start_of(b: &[u8]) -> Start
-    requires { ⌜ 107 ≤ length (now b) ⌝ }
-    ensures { λ r. ⌜ r ≡ startOf (now (b .entry)) ⌝ }
+fn doubles_of(b: &[u8]) -> [f64; MOVE_LENGTH]
+    requires { ⌜ recordLength ≤ length (now b) ⌝ }
+    ensures { λ r. ⌜ r ≡ firsts moveLength (double (now (b .entry))) ⌝ }
 {
-    Start {
-        p0: double(b, 0),
-        v0: double(b, 1),
-        a0: double(b, 2),
+    let mut numbers = [0.0; MOVE_LENGTH];
+    let mut i = 0;
+    while i < MOVE_LENGTH {
+        numbers[i] = double(b, i);
+        i += 1;
     }
-}
-
-fn target_of(b: &[u8]) -> Target
-    requires { ⌜ 107 ≤ length (now b) ⌝ }
-    ensures { λ r. ⌜ r ≡ targetOf (now (b .entry)) ⌝ }
-{
-    Target {
-        pf: double(b, 3),
-        vf: double(b, 4),
-        af: double(b, 5),
-    }
-}
-
-fn limits_of(b: &[u8]) -> Limits
-    requires { ⌜ 107 ≤ length (now b) ⌝ }
-    ensures { λ r. ⌜ r ≡ limitsOf (now (b .entry)) ⌝ }
-{
-    Limits {
-        v_max: double(b, 6),
-        v_min: double(b, 7),
-        a_max: double(b, 8),
-        a_min: double(b, 9),
-        j_max: double(b, 10),
-    }
+    numbers
 }
 
 fn move_of(b: &[u8]) -> Move
-    requires { ⌜ 107 ≤ length (now b) ⌝ }
-    ensures { λ r. ⌜ r ≡ moveOf (now (b .entry)) ⌝ }
+    requires { ⌜ recordLength ≤ length (now b) ⌝ }
+    ensures { λ r. ⌜ r ≡ recordMove (now (b .entry)) ⌝ }
 {
-    let start = start_of(b);
-    let target = target_of(b);
-    let limits = limits_of(b);
-    Move {
-        start,
-        target,
-        limits,
-        brake: double(b, 11),
-        accel: double(b, 12),
-    }
+    Move::of(doubles_of(b))
 }
 
 fn is_malformed(b: &[u8]) -> bool
     ensures { λ r. ⌜ r ≡ isMalformed (now (b .entry)) ⌝ }
 {
-    if b.len() < 107 {
+    if b.len() < RECORD_LENGTH {
         return true;
     }
-    (byte_at(b, 0) * 256 + byte_at(b, 1) != 105) | (byte_at(b, 2) != 1)
+    (byte_at(b, 0) * 256 + byte_at(b, 1) != RECORD_BODY) | (byte_at(b, 2) != RECORD_VERSION)
 }
 
 // The record that the input's next bytes begin with.
@@ -92,3 +69,9 @@ pub fn read_record(b: &[u8]) -> Record
     }
     Record::Whole(move_of(b))
 }
+
+// The lengths of the code are those of the definitions.
+pub fn record_constants()
+    ensures { λ _. do b ← ⟦RECORD_BODY⟧ .entry; n ← ⟦RECORD_LENGTH⟧ .entry; ⌜ (b ≡ recordBody) × (n ≡ recordLength) ⌝ }
+    ensures { λ _. do v ← ⟦RECORD_VERSION⟧ .entry; ⌜ v ≡ recordVersion ⌝ }
+{}

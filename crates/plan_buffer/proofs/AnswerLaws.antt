@@ -12,42 +12,54 @@ use Rattle.block.specs.declared.Stretch.{Stretch}
 use Rattle.block.specs.declared.Stretch.the-variants.{Nothing, Between, From}
 use Rattle.block.specs.declared.Block.{Block}
 use Rattle.block.specs.declared.Answer.{Answer}
+use Rattle.profile.specs.Layout.{elements, profileDoubles}
+use Rattle.planner.specs.Layout.{moveLength, moveOf}
 use Rattle.planner.specs.Answers.{answerOf}
 use Rattle.planner.specs.Promise.{Promise, FiniteDuration}
 use Rattle.planner.specs.declared.Move.{Move}
-use Rattle.plan_buffer.specs.Layout.{numeral, elements, profileNumbers, intervalNumbers, planNumbers}
-use Rattle.plan_buffer.specs.Buffers.{movedFrom, planStatus, planWritten, Planned, insideNumbers, isBlockedFrom, blockingFrom, blockedStatus, Asked}
+use Rattle.plan_buffer.specs.Layout.{numeral, profileNumbers, intervalNumbers, planNumbers, planLength}
+use Rattle.plan_buffer.specs.Buffers.{wrongLength, planStatus, planWritten, Planned}
+use Rattle.plan_buffer.specs.Buffers.{insideNumbers, isBlockedFrom, blockingFrom, blockedStatus, Asked}
 use Rattle.plan_buffer.proofs.LayoutLaws.{plan-length}
 
 -- ---- planning: nothing is written unless the status is 0
-never : {A : Type 0} → _≡_ {A = ℕ} 9 0 → A
+never : {A : Type 0} → _≡_ {A = ℕ} wrongLength 0 → A
 never z = absurd (let none : ⊥ = omega arith in none)
 
-module _ (mv plan : List Float) where
-  pub wrong-move : (length mv ≡ 13 → ⊥) → Planned mv plan 9 plan
+module _ (mv buffer : List Float) where
+  pub wrong-move : (length mv ≡ moveLength → ⊥) → Planned mv buffer wrongLength buffer
   unfolding planStatus planWritten
   wrong-move h =
-      let e = ne-eqb (length mv) 13 h in
+      let e = ne-eqb (length mv) moveLength h in
       record { status-is = rw e; after-is = rw e; promise = λ z. never z; duration = λ z. never z }
 
-  module _ (thirteen : length mv ≡ 13) where
-    pub short-plan : length plan < 166 → Planned mv plan 9 plan
+  module _ (of-move : length mv ≡ moveLength) where
+    pub short-buffer : length buffer < planLength → Planned mv buffer wrongLength buffer
     unfolding planStatus planWritten
-    short-plan h =
-        let e = eq-eqb (length mv) 13 thirteen in
-        let f = lt-ltb (length plan) 166 h in
+    short-buffer h =
+        let e = eq-eqb (length mv) moveLength of-move in
+        let f = lt-ltb (length buffer) planLength h in
         record { status-is = rw (e, f); after-is = rw (e, f); promise = λ z. never z; duration = λ z. never z }
 
-    module _ (room : 166 ≤ length plan) (x : Move) (r : Answer) (ex : x ≡ movedFrom mv) (er : r ≡ answerOf x) where
-      status : r .refusal ≡ planStatus mv plan
+    module _ (room : planLength ≤ length buffer) (x : Move) (r : Answer) (ex : x ≡ moveOf mv)
+        (er : r ≡ answerOf x) where
+      status : r .refusal ≡ planStatus mv buffer
       unfolding planStatus
-      status = rw (eq-eqb (length mv) 13 thirteen, le-ltb (length plan) 166 room, er, ex)
+      status = rw (eq-eqb (length mv) moveLength of-move, le-ltb (length buffer) planLength room, er, ex)
 
-      pub refused-move : (r .refusal ≡ 0 → ⊥) → Planned mv plan (r .refusal) plan
+      pub refused-move : (r .refusal ≡ 0 → ⊥) → Planned mv buffer (r .refusal) buffer
       unfolding planWritten
-      refused-move h = record { status-is = status; after-is = rw (← status, ne-eqb (r .refusal) 0 h); promise = λ z. absurd (h z); duration = λ z. absurd (h z) }
+      refused-move h =
+          record {
+            status-is = status;
+            after-is = rw (← status, ne-eqb (r .refusal) 0 h);
+            promise = λ z. absurd (h z);
+            duration = λ z. absurd (h z);
+          }
 
-      pub planned-move : (after : List Float) → r .refusal ≡ 0 → Promise x r → FiniteDuration r → after ≡ planNumbers (r .block) ++ drop 166 plan → Planned mv plan 0 after
+      pub planned-move : (after : List Float) → r .refusal ≡ 0 → Promise x r → FiniteDuration r
+          → after ≡ planNumbers (r .block) ++ drop planLength buffer
+          → Planned mv buffer 0 after
       unfolding planWritten
       planned-move after z promise duration e =
           record {
@@ -58,33 +70,35 @@ module _ (mv plan : List Float) where
           }
 
 -- ---- which times are blocked
-inside-numbers : (s : Stretch) (t : Float) → insideNumbers (numeral (kindNumber s)) (leftEnd s) (rightEnd s) t ≡ inside s t
+inside-numbers : (s : Stretch) (t : Float)
+    → insideNumbers (numeral (kindNumber s)) (leftEnd s) (rightEnd s) t ≡ inside s t
 unfolding eq ofBits ofInt
 inside-numbers Nothing t = refl
 inside-numbers (Between left right) t = refl
 inside-numbers (From left) t = refl
 
 -- the buffer of a plan, whatever lies beyond it, answers for the plan
-pub blocking-of-plan : (b : Block) (rest : List Float) (t : Float) → blockingFrom (planNumbers b ++ rest) t ≡ blockingNumber (blockingOf b t)
-unfolding blockingFrom isBlockedFrom planNumbers intervalNumbers profileNumbers elements blockingOf isBlocked
+pub blocking-of-plan : (b : Block) (rest : List Float) (t : Float)
+    → blockingFrom (planNumbers b ++ rest) t ≡ blockingNumber (blockingOf b t)
+unfolding blockingFrom isBlockedFrom planNumbers intervalNumbers profileNumbers profileDoubles elements blockingOf isBlocked
 blocking-of-plan b rest t = rw (inside-numbers (b .a .stretch) t, inside-numbers (b .b .stretch) t)
 
-long-enough : (b : Block) (rest : List Float) → 166 ≤ length (planNumbers b ++ rest)
+long-enough : (b : Block) (rest : List Float) → planLength ≤ length (planNumbers b ++ rest)
 long-enough b rest = omega (arith, length-append (planNumbers b) rest, plan-length b)
 
-module _ (plan : List Float) (t : Float) where
-  pub asked-short : length plan < 166 → Asked plan t 9
+module _ (buffer : List Float) (t : Float) where
+  pub asked-short : length buffer < planLength → Asked buffer t wrongLength
   unfolding blockedStatus
   asked-short h =
       record {
-        status-is = rw (lt-ltb (length plan) 166 h);
+        status-is = rw (lt-ltb (length buffer) planLength h);
         of-plan = λ b rest e. absurd (let none : ⊥ = omega (arith, long-enough b rest, ap length e) in none);
       }
 
-  pub asked-whole : (r : ℕ) → 166 ≤ length plan → r ≡ blockingFrom plan t → Asked plan t r
+  pub asked-whole : (r : ℕ) → planLength ≤ length buffer → r ≡ blockingFrom buffer t → Asked buffer t r
   unfolding blockedStatus
   asked-whole r h e =
       record {
-        status-is = rw (le-ltb (length plan) 166 h) e;
+        status-is = rw (le-ltb (length buffer) planLength h) e;
         of-plan = λ b rest f. e ∙ ap (λ (l : List Float). blockingFrom l t) f ∙ blocking-of-plan b rest t;
       }

@@ -1,12 +1,13 @@
--- A plan as 166 doubles. Definitions only.
-use Prim.Native.Nat.{ℕ, zero, suc}
+-- A plan as doubles: the lengths and places of its parts follow from the profile's layout. Definitions only.
+use Prim.Native.Nat.{ℕ, _+_}
 use mathlib.Core.List.{List, [], _∷_, _++_}
 use lib.IntN.{pos}
 use lib.Ieee.{Float, binary64, ofInt}
-use Rattle.doubles.specs.Operators.{at}
+use Rattle.profile.specs.Layout.{profileNamesLength, profileDoubles, profileDoublesLength}
 use Rattle.profile.specs.Names.{directionNumber, limitsNumber, controlSignsNumber}
 use Rattle.profile.specs.declared.Profile.{Profile}
 use Rattle.block.specs.Blocks.{kindNumber, leftEnd, rightEnd}
+use Rattle.block.specs.declared.Stretch.{Stretch}
 use Rattle.block.specs.declared.Interval.{Interval}
 use Rattle.block.specs.declared.Block.{Block}
 
@@ -14,36 +15,50 @@ use Rattle.block.specs.declared.Block.{Block}
 abbrev pub numeral : ℕ → Float
 numeral n = ofInt binary64 (pos n)
 
--- ---- a profile, 53 doubles; a stretch with the profile beside it, 56; a plan, 166
-
--- the first n of the numbers s 0, s 1, ..; the elements of an array of n
-abbrev pub firsts : ℕ → (ℕ → Float) → List Float
-firsts zero s = []
-firsts (suc n) s = s 0 ∷ firsts n (λ i. s (suc i))
-
-unfoldable pub elements : ℕ → List Float → List Float
-elements n l = firsts n (at l)
-
+-- ---- a profile: its names, then its doubles; 53 in all
 -- direction, limits, control signs
 abbrev pub names : Profile → List Float
-names q = numeral (directionNumber (q .direction)) ∷ numeral (limitsNumber (q .limits)) ∷ numeral (controlSignsNumber (q .«control_signs»)) ∷ []
+names q =
+    numeral (directionNumber (q .direction))
+    ∷ numeral (limitsNumber (q .limits))
+    ∷ numeral (controlSignsNumber (q .«control_signs»))
+    ∷ []
 
--- 0 direction, 1 limits, 2 control signs, 3 t, 10 t_sum, 17 j, 24 a, 32 v, 40 p, 48 pf, 49 vf, 50 af, 51 brake, 52 accel
 unfoldable pub profileNumbers : Profile → List Float
-profileNumbers q =
-    names q
-    ++ elements 7 (q .t)
-    ++ elements 7 (q .«t_sum»)
-    ++ elements 7 (q .j)
-    ++ elements 8 (q .a)
-    ++ elements 8 (q .v)
-    ++ elements 8 (q .p)
-    ++ (q .pf ∷ q .vf ∷ q .af ∷ q .brake ∷ q .accel ∷ [])
+profileNumbers q = names q ++ profileDoubles q
 
--- 0 kind, 1 left end, 2 right end, 3 the profile beside it
+abbrev pub profileLength : ℕ
+profileLength = profileNamesLength + profileDoublesLength
+
+-- ---- a stretch: its kind and two ends, then the profile beside it; 56 in all
+abbrev pub ends : Stretch → List Float
+ends s = numeral (kindNumber s) ∷ leftEnd s ∷ rightEnd s ∷ []
+
+abbrev pub endsLength : ℕ
+endsLength = 3
+
 unfoldable pub intervalNumbers : Interval → List Float
-intervalNumbers i = (numeral (kindNumber (i .stretch)) ∷ leftEnd (i .stretch) ∷ rightEnd (i .stretch) ∷ []) ++ profileNumbers (i .profile)
+intervalNumbers i = ends (i .stretch) ++ profileNumbers (i .profile)
 
--- 0 shortest duration, 1 its profile, 54 stretch a, 110 stretch b
+abbrev pub intervalLength : ℕ
+intervalLength = endsLength + profileLength
+
+-- ---- a plan: its duration, its profile, and two stretches; 166 in all
 unfoldable pub planNumbers : Block → List Float
 planNumbers b = (b .«t_min» ∷ []) ++ profileNumbers (b .«p_min») ++ intervalNumbers (b .a) ++ intervalNumbers (b .b)
+
+-- where the parts stand: 0, 1, 54 and 110
+abbrev pub durationAt : ℕ
+durationAt = 0
+
+abbrev pub profileAt : ℕ
+profileAt = durationAt + 1
+
+abbrev pub stretchAAt : ℕ
+stretchAAt = profileAt + profileLength
+
+abbrev pub stretchBAt : ℕ
+stretchBAt = stretchAAt + intervalLength
+
+abbrev pub planLength : ℕ
+planLength = stretchBAt + intervalLength

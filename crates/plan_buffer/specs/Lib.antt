@@ -1,4 +1,4 @@
--- The definitions of `plan_buffer`: a plan as 166 doubles, a move as 13, and what is answered of them.
+-- The definitions of `plan_buffer`: a plan as doubles, and what is answered of a move and a plan in buffers.
 pub mod Layout
 pub mod Steps
 pub mod Buffers

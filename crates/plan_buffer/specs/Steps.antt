@@ -1,4 +1,5 @@
--- What the inner steps of writing a plan give. Definitions only, for their contracts: the meaning of a buffer doesn't rest on them.
+-- What the inner steps of writing a plan give. Definitions only, for their contracts: the meaning of a buffer doesn't
+-- rest on them.
 use Prim.Native.Nat.{ℕ}
 use mathlib.Core.List.{List}
 use lib.Seq.{sets}

@@ -1,39 +1,25 @@
 // A move from a lent slice, and what is asked of a plan in one.
 
 ghost use mathlib.Core.Path.{_≡_};
-ghost use Prim.Native.Nat.{_≤_};
+ghost use Prim.Native.Nat.{_+_, _≤_};
 ghost use lib.ListN.{length};
-ghost use Rattle.plan_buffer.specs.Buffers.{movedFrom, insideNumbers, blockingFrom};
+ghost use Rattle.planner.specs.Layout.{moveLength, moveOf};
+ghost use Rattle.plan_buffer.specs.Layout.{endsLength, planLength};
+ghost use Rattle.plan_buffer.specs.Buffers.{insideNumbers, insideAt, blockingFrom};
+use crate::layout::DURATION_AT;
+use crate::layout::STRETCH_A_AT;
+use crate::layout::STRETCH_B_AT;
+use crate::write::put;
+use planner::MOVE_LENGTH;
 use planner::Move;
-use profile::Limits;
-use profile::Start;
-use profile::Target;
 
 pub fn moved(mv: &[f64]) -> Move
-    requires { ⌜ length (now mv) ≡ 13 ⌝ }
-    ensures { λ r. ⌜ r ≡ movedFrom (now (mv .entry)) ⌝ }
+    requires { ⌜ length (now mv) ≡ moveLength ⌝ }
+    ensures { λ r. ⌜ r ≡ moveOf (now (mv .entry)) ⌝ }
 {
-    Move {
-        start: Start {
-            p0: mv[0],
-            v0: mv[1],
-            a0: mv[2],
-        },
-        target: Target {
-            pf: mv[3],
-            vf: mv[4],
-            af: mv[5],
-        },
-        limits: Limits {
-            v_max: mv[6],
-            v_min: mv[7],
-            a_max: mv[8],
-            a_min: mv[9],
-            j_max: mv[10],
-        },
-        brake: mv[11],
-        accel: mv[12],
-    }
+    let mut numbers = [0.0; MOVE_LENGTH];
+    put(&mut numbers, 0, mv);
+    Move::of(numbers)
 }
 
 // Whether t is inside a stretch of this kind and these ends.
@@ -49,14 +35,26 @@ fn inside(kind: f64, left: f64, right: f64, t: f64) -> bool
     false
 }
 
-pub fn blocking(plan: &[f64], t: f64) -> u64
-    requires { ⌜ 166 ≤ length (now plan) ⌝ }
-    ensures { λ r. ⌜ r ≡ blockingFrom (now (plan .entry)) t ⌝ }
+// Whether t is inside the stretch at a place of the buffer.
+fn inside_at(buffer: &[f64], at: usize, t: f64) -> bool
+    requires { ⌜ at + endsLength ≤ length (now buffer) ⌝ }
+    ensures { λ r. ⌜ r ≡ insideAt (now (buffer .entry)) at t ⌝ }
+{
+    inside(buffer[at], buffer[at + 1], buffer[at + 2], t)
+}
+
+pub fn blocking(buffer: &[f64], t: f64) -> u64
+    requires { ⌜ planLength ≤ length (now buffer) ⌝ }
+    ensures { λ r. ⌜ r ≡ blockingFrom (now (buffer .entry)) t ⌝ }
 {
     if !doubles::is_finite(t) {
         return 6;
     }
-    let a = inside(plan[54], plan[55], plan[56], t);
-    let b = inside(plan[110], plan[111], plan[112], t);
-    if (t < plan[0]) | a | b { 1 } else { 0 }
+    let a = inside_at(buffer, STRETCH_A_AT, t);
+    let b = inside_at(buffer, STRETCH_B_AT, t);
+    if (t < buffer[DURATION_AT]) | a | b {
+        1
+    } else {
+        0
+    }
 }

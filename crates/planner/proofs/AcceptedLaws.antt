@@ -1,4 +1,5 @@
--- A profile that the check accepted from a move's start to its target: its boundary is the move's, and its replay ends at the target. Assumes nothing.
+-- A profile that the check accepted from a move's start to its target: its boundary is the move's, and its replay ends
+-- at the target. Assumes nothing.
 use mathlib.Core.Path.{_≡_, refl, ap, _∙_, subst}
 use mathlib.Core.Bool.{true, false}
 use lib.Ieee.{Float}
@@ -8,13 +9,15 @@ use Rattle.profile.specs.declared.Profile.{Profile}
 use Rattle.profile.specs.declared.Start.{Start}
 use Rattle.profile.specs.declared.Target.{Target}
 use Rattle.profile.specs.declared.ControlSigns.the-variants.{UDDU}
-use Rattle.profile_check.proofs.Accepted.{Accepted, accepts-tells}
-use Rattle.candidates.specs.Try.{Try, passes, profileOf}
+use Rattle.profile_check.specs.Accepted.{Accepted}
+use Rattle.profile_check.proofs.Accepted.{accepts-tells}
+use Rattle.candidates.specs.Try.{passes, profileOf}
+use Rattle.candidates.specs.declared.Try.{Try}
 use Rattle.candidates.proofs.CheckLaws.{start-of, target-of, brake-of, accel-of, checked-again}
 use Rattle.replay.specs.Replay.{storedRows}
 use Rattle.replay.specs.Promise.{EndsAt}
 use Rattle.replay.proofs.CheckedReplay.{ProfileFits, none-stored, accepted-ends-at}
-use Rattle.get_profile.proofs.AnswerLaws.{AcceptedFor}
+use Rattle.get_profile.specs.Answered.{AcceptedFor}
 use Rattle.planner.specs.Answers.{inputOf}
 use Rattle.planner.specs.Promise.{Arrives, OfMove, CheckedFor}
 use Rattle.planner.specs.declared.Move.{Move}
@@ -42,9 +45,12 @@ module _ (x : Move) where
   input-accel = refl
 
 -- ---- a try that passes
-pub passed-tells : (brake accel : Float) (y : Try) → passes y ≡ true → Accepted (profileOf brake accel y) false (y .jf) (y .limits)
+pub passed-tells : (brake accel : Float) (y : Try) → passes y ≡ true
+    → Accepted (profileOf brake accel y) false (y .jf) (y .limits)
 unfolding passes profileOf withBoundary emptyProfile
-passed-tells brake accel y h = accepts-tells (withBoundary emptyProfile (y .start) (y .target) brake accel) (y .t) UDDU (y .reached) false (y .jf) (y .limits) (rw h tt)
+passed-tells brake accel y h =
+    accepts-tells (withBoundary emptyProfile (y .start) (y .target) brake accel) (y .t) UDDU (y .reached) false (y .jf)
+    (y .limits) (rw h tt)
 
 module _ (x : Move) (q : Profile) (h : AcceptedFor (inputOf x) (x .limits) q) where
   pub accepted-tells : Accepted q false (h .x .jf) (h .x .limits)
@@ -71,6 +77,9 @@ module _ (x : Move) (q : Profile) (h : AcceptedFor (inputOf x) (x .limits) q) wh
 
   pub arrives : OfDoubles q → Arrives x q
   arrives d =
-      subst (λ (s : Start). EndsAt s (x .target) (x .limits .«j_max») q (storedRows false (q .limits))) (of-move .start-is)
-      (subst (λ (g : Target). EndsAt (startOf q) g (x .limits .«j_max») q (storedRows false (q .limits))) (of-move .target-is)
-      (accepted-ends-at q false (h .x .jf) (h .x .limits) d (none-stored (q .limits)) accepted-tells (x .limits .«j_max»)))
+      subst (λ (s : Start). EndsAt s (x .target) (x .limits .«j_max») q (storedRows false (q .limits)))
+      (of-move .start-is)
+      (subst (λ (g : Target). EndsAt (startOf q) g (x .limits .«j_max») q (storedRows false (q .limits)))
+      (of-move .target-is)
+      (accepted-ends-at q false (h .x .jf) (h .x .limits) d (none-stored (q .limits)) accepted-tells
+      (x .limits .«j_max»)))

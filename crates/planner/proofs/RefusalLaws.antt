@@ -12,7 +12,7 @@ use Rattle.get_profile.proofs.RefusalLaws.{refused-4 as answered-4, refused-4-e
 use Rattle.planner.specs.Answers.{finiteMove, wrongSign, wrongDuration, inputOf, answerOf, Admitted, Tried}
 use Rattle.planner.specs.declared.Move.{Move}
 
--- ---- by the three tests, and the answer a where all are passed
+-- ---- by the three conditions, and the answer a where all are passed
 abbrev byTests : (finite-move wrong-sign wrong-duration : Bool) → Answer → Answer
 byTests f s d a = cond (not f) (refused 1) (cond s (refused 2) (cond d (refused 3) a))
 
@@ -48,7 +48,8 @@ by-none true true d a t = absurd (not-tested (refused 2) t 2 (omega arith) (omeg
 by-none true false true a t = absurd (not-tested (refused 3) t 3 (omega arith) (omega arith) refl)
 by-none true false false a t = (refl, refl, refl)
 
-by-empty : (f s d : Bool) (a : Answer) → ((a .refusal ≡ 0 → ⊥) → a .block ≡ emptyBlock) → (byTests f s d a .refusal ≡ 0 → ⊥) → byTests f s d a .block ≡ emptyBlock
+by-empty : (f s d : Bool) (a : Answer) → ((a .refusal ≡ 0 → ⊥) → a .block ≡ emptyBlock)
+    → (byTests f s d a .refusal ≡ 0 → ⊥) → byTests f s d a .block ≡ emptyBlock
 unfolding refused
 by-empty false s d a g h = refl
 by-empty true true d a g h = refl
@@ -60,36 +61,47 @@ module _ (x : Move) where
   -- one of the 13 numbers is NaN or infinite
   pub refused-1 : (answerOf x .refusal ≡ 1) ↔ (finiteMove x ≡ false)
   unfolding answerOf
-  refused-1 = by-1 (getProfileAnswer (inputOf x) (x .limits)) (answered (inputOf x) (x .limits) .number) (finiteMove x) (wrongSign (x .limits)) (wrongDuration x)
+  refused-1 =
+      by-1 (getProfileAnswer (inputOf x) (x .limits)) (answered (inputOf x) (x .limits) .number) (finiteMove x)
+      (wrongSign (x .limits)) (wrongDuration x)
 
   -- none is, and a limit has the wrong sign
   pub refused-2 : (answerOf x .refusal ≡ 2) ↔ ((finiteMove x ≡ true) × (wrongSign (x .limits) ≡ true))
   unfolding answerOf
-  refused-2 = by-2 (getProfileAnswer (inputOf x) (x .limits)) (answered (inputOf x) (x .limits) .number) (finiteMove x) (wrongSign (x .limits)) (wrongDuration x)
+  refused-2 =
+      by-2 (getProfileAnswer (inputOf x) (x .limits)) (answered (inputOf x) (x .limits) .number) (finiteMove x)
+      (wrongSign (x .limits)) (wrongDuration x)
 
   -- none has, and a duration is below 0 or above 1e12
-  pub refused-3 : (answerOf x .refusal ≡ 3) ↔ ((finiteMove x ≡ true) × (wrongSign (x .limits) ≡ false) × (wrongDuration x ≡ true))
+  pub refused-3 : (answerOf x .refusal ≡ 3)
+      ↔ ((finiteMove x ≡ true) × (wrongSign (x .limits) ≡ false) × (wrongDuration x ≡ true))
   unfolding answerOf
-  refused-3 = by-3 (getProfileAnswer (inputOf x) (x .limits)) (answered (inputOf x) (x .limits) .number) (finiteMove x) (wrongSign (x .limits)) (wrongDuration x)
+  refused-3 =
+      by-3 (getProfileAnswer (inputOf x) (x .limits)) (answered (inputOf x) (x .limits) .number) (finiteMove x)
+      (wrongSign (x .limits)) (wrongDuration x)
 
   -- and else the answer is `get_profile`'s: a plan, or refusal 4 or 5
   pub admitted-answer : Admitted x → answerOf x ≡ getProfileAnswer (inputOf x) (x .limits)
   unfolding answerOf
   admitted-answer j = rw (j .finite, j .signs, j .durations)
 
-  tests-passed : Tried (answerOf x) → Admitted x
+  tried-admitted : Tried (answerOf x) → Admitted x
   unfolding answerOf
-  tests-passed t =
-      let k = by-none (finiteMove x) (wrongSign (x .limits)) (wrongDuration x) (getProfileAnswer (inputOf x) (x .limits)) t in
+  tried-admitted t =
+      let k = by-none (finiteMove x) (wrongSign (x .limits)) (wrongDuration x)
+      (getProfileAnswer (inputOf x) (x .limits)) t in
       record { finite = k .0; signs = k .1; durations = k .2 }
 
   -- an answer by the number n is `get_profile`'s, where that is one of its numbers
-  by-answer : (n : ℕ) (P : Type 0) → (answerOf x .refusal ≡ n → Tried (answerOf x)) → ((getProfileAnswer (inputOf x) (x .limits) .refusal ≡ n) ↔ P) → (answerOf x .refusal ≡ n) ↔ (Admitted x × P)
-  by-answer n P tried h =
-      (λ e. let j = tests-passed (tried e) in (j, h .0 (rw (admitted-answer j) at e)), λ z. rw (admitted-answer (z .0)) (h .1 (z .1)))
+  by-answer : (n : ℕ) (P : Type 0) → (answerOf x .refusal ≡ n → Tried (answerOf x))
+      → ((getProfileAnswer (inputOf x) (x .limits) .refusal ≡ n) ↔ P) → (answerOf x .refusal ≡ n) ↔ (Admitted x × P)
+  by-answer n P tried h = (
+    λ e. let j = tried-admitted (tried e) in (j, h .0 (rw (admitted-answer j) at e)),
+    λ z. rw (admitted-answer (z .0)) (h .1 (z .1)),
+  )
 
   pub admitted : Tried (answerOf x) ↔ Admitted x
-  admitted = (tests-passed, λ j. rw (admitted-answer j) (answered (inputOf x) (x .limits) .number))
+  admitted = (tried-admitted, λ j. rw (admitted-answer j) (answered (inputOf x) (x .limits) .number))
 
   -- of those, 4 exactly where no try that is asked is accepted
   pub refused-4 : (answerOf x .refusal ≡ 4) ↔ (Admitted x × NoneAccepted (inputOf x) (x .limits))
@@ -97,17 +109,29 @@ module _ (x : Move) where
 
   -- which is where each of all tries is refused
   pub refused-4-each : (answerOf x .refusal ≡ 4) ↔ (Admitted x × EachRefused (inputOf x) (x .limits))
-  refused-4-each = by-answer 4 (EachRefused (inputOf x) (x .limits)) (λ e. inr (inl e)) (answered-4-each (inputOf x) (x .limits))
+  refused-4-each =
+      by-answer 4 (EachRefused (inputOf x) (x .limits)) (λ e. inr (inl e)) (answered-4-each (inputOf x) (x .limits))
 
   -- 5 exactly where the families are tried, four profiles count and no removal rule applies
   pub refused-5 : (answerOf x .refusal ≡ 5) ↔ (Admitted x × FourStay (inputOf x) (x .limits))
   refused-5 = by-answer 5 (FourStay (inputOf x) (x .limits)) (λ e. inr (inr e)) (answered-5 (inputOf x) (x .limits))
 
   -- and a plan exactly where neither is so
-  pub accepted : (answerOf x .refusal ≡ 0) ↔ (Admitted x × (NoneAccepted (inputOf x) (x .limits) → ⊥) × (FourStay (inputOf x) (x .limits) → ⊥))
+  pub accepted : (answerOf x .refusal ≡ 0)
+      ↔ (Admitted x × (NoneAccepted (inputOf x) (x .limits) → ⊥) × (FourStay (inputOf x) (x .limits) → ⊥))
   accepted = (
-    λ e. let j = tests-passed (inl e) in (j, λ n. other 4 (omega arith) e (refused-4 .1 (j, n)), λ f. other 5 (omega arith) e (refused-5 .1 (j, f))),
-    λ z. elim (admitted .1 (z .0)) [ inl e ↦ e | inr t ↦ elim t [ inl e ↦ absurd (z .1 (refused-4 .0 e .1)) | inr e ↦ absurd (z .2 (refused-5 .0 e .1)) ] ],
+    λ e. let j = tried-admitted (inl e) in (
+      j,
+      λ n. other 4 (omega arith) e (refused-4 .1 (j, n)),
+      λ f. other 5 (omega arith) e (refused-5 .1 (j, f)),
+    ),
+    λ z. elim (admitted .1 (z .0)) [
+      | inl e ↦ e
+      | inr t ↦ elim t [
+        | inl e ↦ absurd (z .1 (refused-4 .0 e .1))
+        | inr e ↦ absurd (z .2 (refused-5 .0 e .1))
+      ]
+    ],
   )
     where
       other : (n : ℕ) → 0 < n → answerOf x .refusal ≡ 0 → answerOf x .refusal ≡ n → ⊥
@@ -116,4 +140,6 @@ module _ (x : Move) where
   -- a refused move has the empty plan
   pub refused-plan : (answerOf x .refusal ≡ 0 → ⊥) → answerOf x .block ≡ emptyBlock
   unfolding answerOf
-  refused-plan = by-empty (finiteMove x) (wrongSign (x .limits)) (wrongDuration x) (getProfileAnswer (inputOf x) (x .limits)) (answered (inputOf x) (x .limits) .empty)
+  refused-plan =
+      by-empty (finiteMove x) (wrongSign (x .limits)) (wrongDuration x) (getProfileAnswer (inputOf x) (x .limits))
+      (answered (inputOf x) (x .limits) .empty)

@@ -1,4 +1,5 @@
--- The answer to a move: document 01's refusals 1, 2 and 3 in the order of its table, then `get_profile` on a fresh planner and a fresh block. Definitions only.
+-- The answer to a move: document 01's refusals 1, 2 and 3 in the order of its table, then `get_profile` on a fresh
+-- planner and a fresh block. Definitions only.
 use mathlib.Core.Path.{_≡_}
 use mathlib.Core.Bool.{Bool, true, false, not, cond, _&&_, _||_}
 use mathlib.Core.Logic.{_⊎_}
@@ -24,10 +25,16 @@ unfoldable pub finiteTarget : Target → Bool
 finiteTarget g = finite (g .pf) && finite (g .vf) && finite (g .af)
 
 unfoldable pub finiteLimits : Limits → Bool
-finiteLimits m = finite (m .«v_max») && finite (m .«v_min») && finite (m .«a_max») && finite (m .«a_min») && finite (m .«j_max»)
+finiteLimits m =
+    finite (m .«v_max») && finite (m .«v_min») && finite (m .«a_max») && finite (m .«a_min») && finite (m .«j_max»)
 
 unfoldable pub finiteMove : Move → Bool
-finiteMove x = finiteStart (x .start) && finiteTarget (x .target) && finiteLimits (x .limits) && finite (x .brake) && finite (x .accel)
+finiteMove x =
+    finiteStart (x .start)
+    && finiteTarget (x .target)
+    && finiteLimits (x .limits)
+    && finite (x .brake)
+    && finite (x .accel)
 
 -- v_max, a_max or j_max < 0, or v_min or a_min > 0
 unfoldable pub wrongSign : Limits → Bool

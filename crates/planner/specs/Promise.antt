@@ -18,18 +18,20 @@ use Rattle.replay.specs.Promise.{EndsAt}
 use Rattle.get_profile.specs.GetProfile.{EitherWay, JerkOf}
 use Rattle.planner.specs.declared.Move.{Move}
 
--- replayed in exact fractions from the move's start, with the move's j_max, the profile ends at the move's target: at most the tolerance plus the profile's own
+-- replayed in exact fractions from the move's start, with the move's j_max, the profile ends at the move's target: at
+-- most the tolerance plus the profile's own
 -- allowance away. Every check of a plan is made with `set_limits` false, so no row's acceleration was stored
 abbrev pub Arrives : Move → Profile → Type 0
 Arrives x q = EndsAt (x .start) (x .target) (x .limits .«j_max») q (storedRows false (q .limits))
 
--- where a move is accepted, its plan's profile arrives, and so does the far profile beside each stretch between two times
+-- where a move is accepted, its plan's profile arrives, and so does the far profile beside each stretch between two
+-- times
 abbrev pub Promise : Move → Answer → Type 0
 Promise x r = r .refusal ≡ 0 → Each (Arrives x) (r .block)
 
 -- ---- what else users rely on
 
--- the shortest duration is finite and at least 0, which -0 is too
+-- the plan's duration is finite and at least 0, which -0 is too
 abbrev pub FiniteDuration : Answer → Type 0
 FiniteDuration r = r .refusal ≡ 0 → Finite (r .block .«t_min») × T (0ᶠ ≤ᶠ r .block .«t_min»)
 
@@ -40,7 +42,8 @@ pub record OfMove (x : Move) (q : Profile) : Type 0 where
   pub brake-is : q .brake ≡ x .brake
   pub accel-is : q .accel ≡ x .accel
 
--- the check makes the profile of its own boundary and times: with the move's limits, as they are or for the opposite direction, and at their jerk,
+-- the check makes the profile of its own boundary and times: with the move's limits, as they are or for the opposite
+-- direction, and at their jerk,
 -- or on the single-step path at jerk 0
 pub record CheckedFor (x : Move) (q : Profile) : Type 0 where
   pub limits : Limits

@@ -11,6 +11,10 @@ use profile::Profile;
 use profile::Start;
 use profile::Target;
 
+mod layout; // layout.rt: a move's numbers in their order
+
+pub use layout::MOVE_LENGTH;
+
 // Where a move starts and ends, its limits, and two durations that are only added to the plan's.
 pub struct Move {
     pub start: Start,

@@ -1,4 +1,5 @@
--- What `set_boundary` and `set_boundary_from_profile` change of a profile, and what they leave: worked on profiles whose numbers are all different. Assumes nothing.
+-- What `set_boundary` and `set_boundary_from_profile` change of a profile, and what they leave: worked on profiles
+-- whose numbers are all different. Assumes nothing.
 use mathlib.Core.Path.{_≡_, refl}
 use Prim.Native.Nat.{ℕ}
 use mathlib.Core.List.{List, [], _∷_}
@@ -35,13 +36,15 @@ profileOf a v p pf vf af brake accel =
     }
 
 -- start and target are new, the durations stay
-pub set-boundary-changes : boundarySet (profileOf 61 62 63 64 65 66 67 68) (record { p0 = n 71; v0 = n 72; a0 = n 73 }) (record { pf = n 74; vf = n 75; af = n 76 })
+pub set-boundary-changes : boundarySet (profileOf 61 62 63 64 65 66 67 68) (record { p0 = n 71; v0 = n 72; a0 = n 73 })
+    (record { pf = n 74; vf = n 75; af = n 76 })
     ≡ profileOf 73 72 71 74 75 76 67 68
 unfolding withBoundary
 set-boundary-changes = refl
 
 -- start, target and durations are the other's, and nothing else of it
-pub set-boundary-from-profile-changes : (other : Profile) → other .a ≡ n 81 ∷ replicate 7 (n 91) → other .v ≡ n 82 ∷ replicate 7 (n 92) → other .p ≡ n 83 ∷ replicate 7 (n 93)
+pub set-boundary-from-profile-changes : (other : Profile) → other .a ≡ n 81 ∷ replicate 7 (n 91) → other .v
+    ≡ n 82 ∷ replicate 7 (n 92) → other .p ≡ n 83 ∷ replicate 7 (n 93)
     → other .pf ≡ n 84 → other .vf ≡ n 85 → other .af ≡ n 86 → other .brake ≡ n 87 → other .accel ≡ n 88
     → boundaryFrom (profileOf 61 62 63 64 65 66 67 68) other ≡ profileOf 81 82 83 84 85 86 87 88
 unfolding withBoundary

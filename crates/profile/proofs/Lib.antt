@@ -1,2 +1,4 @@
--- The proofs of `profile`: worked examples. Each function's proof has a folder of its own.
+-- The laws of `profile`, and worked examples. Each function's proof has a folder of its own.
+pub mod LayoutLaws
+pub mod MachineLaws
 pub mod Examples

@@ -1,4 +1,5 @@
--- A profile's boundary: its start, in row 0, its target, and the durations of brake and accel. And the empty profile. Definitions only.
+-- A profile's boundary: its start, in row 0, its target, and the durations of brake and accel. And the empty profile.
+-- Definitions only.
 use lib.Ieee.{Float}
 use lib.ListN.{set, replicate}
 use Rattle.doubles.specs.Operators.{at}

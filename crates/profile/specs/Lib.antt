@@ -4,3 +4,4 @@ pub mod Names
 pub mod Limits
 pub mod Boundary
 pub mod With
+pub mod Layout

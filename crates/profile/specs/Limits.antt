@@ -11,7 +11,15 @@ use Rattle.profile.specs.declared.Direction.the-variants.{UP, DOWN}
 
 -- for the opposite direction both pairs change places, and the jerk its sign
 unfoldable pub swappedLimits : Limits → Limits
-swappedLimits m = record { «v_max» = m .«v_min»; «v_min» = m .«v_max»; «a_max» = m .«a_min»; «a_min» = m .«a_max»; «j_max» = -ᶠ (m .«j_max») }
+swappedLimits m =
+    record {
+      «v_max» =
+          m .«v_min»;
+      «v_min» = m .«v_max»;
+      «a_max» = m .«a_min»;
+      «a_min» = m .«a_max»;
+      «j_max» = -ᶠ (m .«j_max»);
+    }
 
 -- UP if the v_max given is above 0, else DOWN
 unfoldable pub directionOf : Limits → Direction

@@ -1,4 +1,5 @@
--- A profile with some of its parts replaced, for definitions and examples that differ from another profile in a few. Definitions only.
+-- A profile with some of its parts replaced, for definitions and examples that differ from another profile in a few.
+-- Definitions only.
 use mathlib.Core.List.{List}
 use lib.Ieee.{Float}
 use Rattle.profile.specs.declared.Profile.{Profile}

@@ -1,4 +1,5 @@
-// A motion profile of one axis, its boundary and its limits: what profile.rs declares, by value. The definitions that the contracts cite are in specs/.
+// A motion profile of one axis, its boundary and its limits: what profile.rs declares, by value. The definitions that
+// the contracts cite are in specs/.
 
 ghost use mathlib.Core.Path.{_≡_};
 ghost use Rattle.profile.specs.Tolerances.{vEps, aEps, jEps, pPrecision, vPrecision, aPrecision, tMax};
@@ -6,7 +7,11 @@ ghost use Rattle.profile.specs.Tolerances.{vEps, aEps, jEps, pPrecision,
 mod names; // names.rt: what a name of reached limits asks of the check
 mod range; // range.rt: limits for the opposite direction, and as rows are held to them
 mod boundary; // boundary.rt: a profile's start, target and durations
+mod layout; // layout.rt: a profile's doubles in their order
 mod lent; // lent.rt: the two functions that change a lent profile
+
+pub use layout::DOUBLES;
+pub use layout::NAMES;
 
 pub enum ReachedLimits {
     Acc0Acc1Vel,
@@ -29,7 +34,8 @@ pub enum ControlSigns {
     UDUD,
 }
 
-// Seven phases of constant jerk, and the eight rows before and after them. brake and accel are durations that are only added.
+// Seven phases of constant jerk, and the eight rows before and after them. brake and accel are durations that are only
+// added.
 pub struct Profile {
     pub t: [f64; 7],
     pub t_sum: [f64; 7],
@@ -94,5 +100,6 @@ impl Profile {
 // The constants of the code are those of the definitions.
 pub fn constants()
     ensures { λ _. do v ← ⟦Profile::V_EPS⟧ .entry; a ← ⟦Profile::A_EPS⟧ .entry; j ← ⟦Profile::J_EPS⟧ .entry; ⌜ (v ≡ vEps) × (a ≡ aEps) × (j ≡ jEps) ⌝ }
-    ensures { λ _. do p ← ⟦Profile::P_PRECISION⟧ .entry; v ← ⟦Profile::V_PRECISION⟧ .entry; a ← ⟦Profile::A_PRECISION⟧ .entry; t ← ⟦Profile::T_MAX⟧ .entry; ⌜ (p ≡ pPrecision) × (v ≡ vPrecision) × (a ≡ aPrecision) × (t ≡ tMax) ⌝ }
+    ensures { λ _. do p ← ⟦Profile::P_PRECISION⟧ .entry; v ← ⟦Profile::V_PRECISION⟧ .entry; ⌜ (p ≡ pPrecision) × (v ≡ vPrecision) ⌝ }
+    ensures { λ _. do a ← ⟦Profile::A_PRECISION⟧ .entry; t ← ⟦Profile::T_MAX⟧ .entry; ⌜ (a ≡ aPrecision) × (t ≡ tMax) ⌝ }
 {}

@@ -1,8 +1,9 @@
 -- A profile as the fields of a line. Definitions only.
-use Prim.Native.Nat.{ℕ}
+use Prim.Native.Nat.{ℕ, _+_, _*_}
 use mathlib.Core.List.{List, [], _∷_, _++_}
 use lib.Ieee.{Float, binary64, toBits}
 use Rattle.encoding.specs.Encoding.{hexDigits}
+use Rattle.profile.specs.Layout.{profileDoubles, profileDoublesLength}
 use Rattle.profile.specs.declared.Profile.{Profile}
 use Rattle.profile.specs.declared.Direction.{Direction}
 use Rattle.profile.specs.declared.Direction.the-variants.{UP, DOWN}
@@ -43,19 +44,31 @@ unfoldable pub doubleFields : List Float → List ℕ
 doubleFields [] = []
 doubleFields (x ∷ xs) = field (hex x) ++ doubleFields xs
 
--- ---- PROFILE: direction, limits, control signs, then t[7] t_sum[7] j[7] a[8] v[8] p[8] pf vf af brake accel
+-- ---- PROFILE: direction, limits, control signs, then the doubles of the profile's layout
 unfoldable pub nameFields : Direction → ReachedLimits → ControlSigns → List ℕ
 nameFields d l s = field (directionName d) ++ field (limitsName l) ++ field (controlSignsName s)
 
-unfoldable pub phaseFields : Profile → List ℕ
-phaseFields q = doubleFields (q .t) ++ doubleFields (q .«t_sum») ++ doubleFields (q .j)
-
-unfoldable pub rowFields : Profile → List ℕ
-rowFields q = doubleFields (q .a) ++ doubleFields (q .v) ++ doubleFields (q .p)
-
 unfoldable pub profileFields : Profile → List ℕ
-profileFields q =
-    nameFields (q .direction) (q .limits) (q .«control_signs»)
-    ++ phaseFields q
-    ++ rowFields q
-    ++ doubleFields (q .pf ∷ q .vf ∷ q .af ∷ q .brake ∷ q .accel ∷ [])
+profileFields q = nameFields (q .direction) (q .limits) (q .«control_signs») ++ doubleFields (profileDoubles q)
+
+-- ---- how many bytes each may take, with the space in front
+abbrev pub hexWidth : ℕ
+hexWidth = 16
+
+abbrev pub doubleWidth : ℕ
+doubleWidth = 1 + hexWidth
+
+abbrev pub directionWidth : ℕ
+directionWidth = 5
+
+abbrev pub limitsWidth : ℕ
+limitsWidth = 12
+
+abbrev pub controlSignsWidth : ℕ
+controlSignsWidth = 5
+
+abbrev pub namesWidth : ℕ
+namesWidth = directionWidth + limitsWidth + controlSignsWidth
+
+abbrev pub profileWidth : ℕ
+profileWidth = namesWidth + doubleWidth * profileDoublesLength

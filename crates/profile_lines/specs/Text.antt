@@ -12,7 +12,8 @@ abbrev pub ascii : String → List ℕ
 ascii [] = nil
 ascii (c ∷ s) = cons (code c) (ascii s)
 
--- out becomes after: the text, of at most `most` bytes, was stored from index `at` on, and nothing else changed; next is the index behind the text
+-- out becomes after: the text, of at most `most` bytes, was stored from index `at` on, and nothing else changed; next
+-- is the index behind the text
 pub record Puts (out after : List ℕ) (at next : ℕ) (text : List ℕ) (most : ℕ) : Type 0 where
   pub bytes : after ≡ sets out at text
   pub behind : next ≡ at + length text

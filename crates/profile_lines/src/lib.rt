@@ -1,15 +1,33 @@
-// A profile as the fields of a line: direction, limits, control signs, then its 50 doubles as hexadecimal digits of their bits, a space in front of each.
+// A profile as the fields of a line: direction, limits, control signs, then its doubles in the order of the profile's
+// layout, as hexadecimal digits of their bits, a space in front of each.
 // Text goes into a lent slice: each function says which bytes it stores there, and answers the index behind them.
+ghost use mathlib.Core.Path.{_≡_};
 ghost use Prim.Native.Nat.{_+_, _*_, _≤_};
 ghost use lib.ListN.{length};
 ghost use Rattle.profile_lines.specs.Text.{Puts};
-ghost use Rattle.profile_lines.specs.Fields.{directionName, limitsName, controlSignsName, field, hex, doubleFields, nameFields, phaseFields, rowFields, profileFields};
+ghost use Rattle.profile_lines.specs.Fields.{directionName, limitsName, controlSignsName, field, hex};
+ghost use Rattle.profile_lines.specs.Fields.{doubleFields, nameFields, profileFields, hexWidth, doubleWidth};
+ghost use Rattle.profile_lines.specs.Fields.{directionWidth, limitsWidth, controlSignsWidth, namesWidth};
+ghost use Rattle.profile_lines.specs.Fields.{profileWidth};
 use encoding::bits_of;
 use encoding::hex16;
 use profile::ControlSigns;
 use profile::Direction;
 use profile::Profile;
 use profile::ReachedLimits;
+
+// How many bytes each may take, with the space in front.
+pub const DOUBLE_WIDTH: usize = 17;
+
+pub const DIRECTION_WIDTH: usize = 5;
+
+pub const LIMITS_WIDTH: usize = 12;
+
+const CONTROL_SIGNS_WIDTH: usize = 5;
+
+const NAMES_WIDTH: usize = DIRECTION_WIDTH + LIMITS_WIDTH + CONTROL_SIGNS_WIDTH;
+
+pub const PROFILE_WIDTH: usize = NAMES_WIDTH + DOUBLE_WIDTH * profile::DOUBLES;
 
 // Text as it stands.
 pub fn put(out: &mut [u8], at: usize, text: &[u8]) -> usize
@@ -25,8 +43,8 @@ pub fn put(out: &mut [u8], at: usize, text: &[u8]) -> usize
 }
 
 pub fn put_direction(out: &mut [u8], at: usize, direction: Direction) -> usize
-    requires { ⌜ at + 5 ≤ length (now out) ⌝ }
-    ensures { λ r. ⌜ Puts (now (out .entry)) (now (out .exit)) at r (field (directionName direction)) 5 ⌝ }
+    requires { ⌜ at + directionWidth ≤ length (now out) ⌝ }
+    ensures { λ r. ⌜ Puts (now (out .entry)) (now (out .exit)) at r (field (directionName direction)) directionWidth ⌝ }
 {
     match direction {
         Direction::UP => put(out, at, b" UP"),
@@ -35,8 +53,8 @@ pub fn put_direction(out: &mut [u8], at: usize, direction: Direction) -> usize
 }
 
 pub fn put_limits(out: &mut [u8], at: usize, limits: ReachedLimits) -> usize
-    requires { ⌜ at + 12 ≤ length (now out) ⌝ }
-    ensures { λ r. ⌜ Puts (now (out .entry)) (now (out .exit)) at r (field (limitsName limits)) 12 ⌝ }
+    requires { ⌜ at + limitsWidth ≤ length (now out) ⌝ }
+    ensures { λ r. ⌜ Puts (now (out .entry)) (now (out .exit)) at r (field (limitsName limits)) limitsWidth ⌝ }
 {
     match limits {
         ReachedLimits::Acc0Acc1Vel => put(out, at, b" Acc0Acc1Vel"),
@@ -51,8 +69,8 @@ pub fn put_limits(out: &mut [u8], at: usize, limits: ReachedLimits) -> usize
 }
 
 fn put_control_signs(out: &mut [u8], at: usize, control_signs: ControlSigns) -> usize
-    requires { ⌜ at + 5 ≤ length (now out) ⌝ }
-    ensures { λ r. ⌜ Puts (now (out .entry)) (now (out .exit)) at r (field (controlSignsName «control_signs»)) 5 ⌝ }
+    requires { ⌜ at + controlSignsWidth ≤ length (now out) ⌝ }
+    ensures { λ r. ⌜ Puts (now (out .entry)) (now (out .exit)) at r (field (controlSignsName «control_signs»)) controlSignsWidth ⌝ }
 {
     match control_signs {
         ControlSigns::UDDU => put(out, at, b" UDDU"),
@@ -62,24 +80,24 @@ fn put_control_signs(out: &mut [u8], at: usize, control_signs: ControlSigns) -> 
 
 // A double's digits, with no space in front.
 pub fn put_hex(out: &mut [u8], at: usize, x: f64) -> usize
-    requires { ⌜ at + 16 ≤ length (now out) ⌝ }
-    ensures { λ r. ⌜ Puts (now (out .entry)) (now (out .exit)) at r (hex x) 16 ⌝ }
+    requires { ⌜ at + hexWidth ≤ length (now out) ⌝ }
+    ensures { λ r. ⌜ Puts (now (out .entry)) (now (out .exit)) at r (hex x) hexWidth ⌝ }
 {
     let digits = hex16(bits_of(x));
     put(out, at, &digits)
 }
 
 pub fn put_double(out: &mut [u8], at: usize, x: f64) -> usize
-    requires { ⌜ at + 17 ≤ length (now out) ⌝ }
-    ensures { λ r. ⌜ Puts (now (out .entry)) (now (out .exit)) at r (field (hex x)) 17 ⌝ }
+    requires { ⌜ at + doubleWidth ≤ length (now out) ⌝ }
+    ensures { λ r. ⌜ Puts (now (out .entry)) (now (out .exit)) at r (field (hex x)) doubleWidth ⌝ }
 {
     let start = put(out, at, b" ");
     put_hex(out, start, x)
 }
 
 pub fn put_doubles(out: &mut [u8], at: usize, x: &[f64]) -> usize
-    requires { ⌜ at + 17 * length (now x) ≤ length (now out) ⌝ }
-    ensures { λ r. ⌜ Puts (now (out .entry)) (now (out .exit)) at r (doubleFields (now (x .entry))) (17 * length (now (x .entry))) ⌝ }
+    requires { ⌜ at + doubleWidth * length (now x) ≤ length (now out) ⌝ }
+    ensures { λ r. ⌜ Puts (now (out .entry)) (now (out .exit)) at r (doubleFields (now (x .entry))) (doubleWidth * length (now (x .entry))) ⌝ }
 {
     let mut end = at;
     let mut i = 0;
@@ -97,50 +115,28 @@ fn put_names(
     limits: ReachedLimits,
     control_signs: ControlSigns,
 ) -> usize
-    requires { ⌜ at + 22 ≤ length (now out) ⌝ }
-    ensures { λ r. ⌜ Puts (now (out .entry)) (now (out .exit)) at r (nameFields direction limits «control_signs») 22 ⌝ }
+    requires { ⌜ at + namesWidth ≤ length (now out) ⌝ }
+    ensures { λ r. ⌜ Puts (now (out .entry)) (now (out .exit)) at r (nameFields direction limits «control_signs») namesWidth ⌝ }
 {
     let direction_end = put_direction(out, at, direction);
     let limits_end = put_limits(out, direction_end, limits);
     put_control_signs(out, limits_end, control_signs)
 }
 
-// t, t_sum and j.
-fn put_phases(out: &mut [u8], at: usize, q: Profile) -> usize
-    requires { ⌜ at + 357 ≤ length (now out) ⌝ }
-    ensures { λ r. ⌜ Puts (now (out .entry)) (now (out .exit)) at r (phaseFields q) 357 ⌝ }
-{
-    let t = q.t;
-    let t_sum = q.t_sum;
-    let j = q.j;
-    let t_end = put_doubles(out, at, &t);
-    let t_sum_end = put_doubles(out, t_end, &t_sum);
-    put_doubles(out, t_sum_end, &j)
-}
-
-// a, v and p.
-fn put_rows(out: &mut [u8], at: usize, q: Profile) -> usize
-    requires { ⌜ at + 408 ≤ length (now out) ⌝ }
-    ensures { λ r. ⌜ Puts (now (out .entry)) (now (out .exit)) at r (rowFields q) 408 ⌝ }
-{
-    let a = q.a;
-    let v = q.v;
-    let p = q.p;
-    let a_end = put_doubles(out, at, &a);
-    let v_end = put_doubles(out, a_end, &v);
-    put_doubles(out, v_end, &p)
-}
-
 pub fn put_profile_fields(out: &mut [u8], at: usize, q: Profile) -> usize
-    requires { ⌜ at + 872 ≤ length (now out) ⌝ }
-    ensures { λ r. ⌜ Puts (now (out .entry)) (now (out .exit)) at r (profileFields q) 872 ⌝ }
+    requires { ⌜ at + profileWidth ≤ length (now out) ⌝ }
+    ensures { λ r. ⌜ Puts (now (out .entry)) (now (out .exit)) at r (profileFields q) profileWidth ⌝ }
 {
     let direction = q.direction;
     let limits = q.limits;
     let control_signs = q.control_signs;
-    let boundary = [q.pf, q.vf, q.af, q.brake, q.accel];
+    let doubles = q.doubles();
     let names_end = put_names(out, at, direction, limits, control_signs);
-    let phases_end = put_phases(out, names_end, q);
-    let rows_end = put_rows(out, phases_end, q);
-    put_doubles(out, rows_end, &boundary)
+    put_doubles(out, names_end, &doubles)
 }
+
+// The widths of the code are those of the definitions.
+pub fn constants()
+    ensures { λ _. do d ← ⟦DIRECTION_WIDTH⟧ .entry; l ← ⟦LIMITS_WIDTH⟧ .entry; ⌜ (d ≡ directionWidth) × (l ≡ limitsWidth) ⌝ }
+    ensures { λ _. do d ← ⟦DOUBLE_WIDTH⟧ .entry; p ← ⟦PROFILE_WIDTH⟧ .entry; ⌜ (d ≡ doubleWidth) × (p ≡ profileWidth) ⌝ }
+{}

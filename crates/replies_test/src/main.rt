@@ -1,17 +1,23 @@
-// What is left of inputs in, how `plan_moves` answers the first record of each out, as the oracle's program `replies` has it. A record is a byte, and as many bytes as it
-// says. A line is `goes on` or `ends`, and the reply's own line if it has one.
+// What is left of inputs in, how `plan_moves` answers the first record of each out, as the oracle's program `replies`
+// has it. A record is a byte, and as many bytes as it says. A line is `goes on` or `ends`, and the reply's own line if it
+// has one.
+ghost use mathlib.Core.Path.{_≡_};
 ghost use Prim.Native.Nat.{_+_, _≤_};
 ghost use lib.ListN.{length};
 ghost use Rattle.io.specs.Counts.{Counts};
 ghost use Rattle.profile_lines.specs.Text.{Puts};
-ghost use Rattle.replies_test.specs.Lines.{wordOf, restOf, answerOf};
+ghost use Rattle.replies_test.specs.Lines.{wordOf, restOf, answerOf, wordWidth, answerWidth};
 use encoding::byte_at;
+use moves::LINE_LENGTH;
 use moves::reply_to;
 use profile_lines::put;
 
+// The word, a space and the reply's line.
+const ANSWER_WIDTH: usize = 7 + 1 + LINE_LENGTH;
+
 fn put_word(out: &mut [u8], at: usize, goes_on: bool) -> usize
-    requires { ⌜ at + 7 ≤ length (now out) ⌝ }
-    ensures { λ r. ⌜ Puts (now (out .entry)) (now (out .exit)) at r (wordOf «goes_on») 7 ⌝ }
+    requires { ⌜ at + wordWidth ≤ length (now out) ⌝ }
+    ensures { λ r. ⌜ Puts (now (out .entry)) (now (out .exit)) at r (wordOf «goes_on») wordWidth ⌝ }
 {
     if goes_on {
         return put(out, at, b"goes on");
@@ -31,11 +37,11 @@ fn put_rest(out: &mut [u8], at: usize, reply: &[u8]) -> usize
 }
 
 // The line for what is left of an input, at the start of out, and how long it is.
-fn line(bytes: &[u8], out: &mut [u8; 136]) -> usize
-    ensures { λ r. ⌜ Puts (now (out .entry)) (now (out .exit)) 0 r (answerOf (now (bytes .entry))) 136 ⌝ }
+fn line(bytes: &[u8], out: &mut [u8; ANSWER_WIDTH]) -> usize
+    ensures { λ r. ⌜ Puts (now (out .entry)) (now (out .exit)) 0 r (answerOf (now (bytes .entry))) answerWidth ⌝ }
     ensures { λ r. ⌜ Counts r (now (out .exit)) ⌝ }
 {
-    let mut text = [0u8; 128];
+    let mut text = [0u8; LINE_LENGTH];
     let reply = reply_to(1, bytes, &mut text);
     let length = reply.length;
     let word_end = put_word(out, 0, reply.goes_on);
@@ -54,10 +60,15 @@ fn answer() -> bool {
     if count < wanted {
         return false;
     }
-    let mut text = [0u8; 136];
+    let mut text = [0u8; ANSWER_WIDTH];
     let length = line(&bytes[..wanted], &mut text);
     io::write_all(1, &text[..length])
 }
+
+// The width of the code is that of the definitions.
+fn constants()
+    ensures { λ _. do n ← ⟦ANSWER_WIDTH⟧ .entry; ⌜ n ≡ answerWidth ⌝ }
+{}
 
 // The count only shows that the loop ends: no input is as long.
 fn main() {

@@ -2,6 +2,7 @@
 use Prim.Native.Nat.{_≤_}
 use native.Mathlib.Omega.{arith}
 use Rattle.profile_lines.proofs.PutLaws.{within}
+use Rattle.decimals.specs.Decimal.{decimalWidth}
 use Rattle.decimals.proofs.DecimalLaws.{at-most-twenty, decimal-is}
 use borrow.Author.Needs.{needs}
 use Rattle.decimals.proofs.put_decimal.Statement.{statement}
@@ -9,16 +10,22 @@ use Rattle.decimals.proofs.put_decimal.Tie as tie
 
 put-requires : tie.Need-put-requires
 put-requires c κs =
-    let d = c .before .before .decimal .ensures in
-    let most : c .before .before .decimal .result ≤ 20 = at-most-twenty _ _ (c .before .before .before .before .before .fits .n .fits) (d .1 .0) in
-    omega (arith, d .0 .1)
+    let after-decimal = c .before .before in
+    let at-entry = after-decimal .before .before .before in
+    let digits = after-decimal .decimal in
+    let most : digits .result ≤ decimalWidth = at-most-twenty _ _ (at-entry .fits .n .fits) (digits .ensures .1 .0) in
+    omega (arith, digits .ensures .0 .1)
 
 returns : tie.Need-returns
 returns c =
-    let d = c .before .before .before .before .before .decimal .ensures in
-    let word = c .before .before .before .before .before .before .before .before .fits .n .fits in
-    let most : c .before .before .before .before .before .decimal .result ≤ 20 = at-most-twenty _ _ word (d .1 .0) in
-    rw (d .1 .1, decimal-is _ _ word (d .1 .0)) at (within {k = 20} (omega (arith, d .0 .1)) (c .before .before .put .ensures))
+    let after-put = c .before .before in
+    let after-decimal = after-put .before .before .before in
+    let at-entry = after-decimal .before .before .before in
+    let word = at-entry .fits .n .fits in
+    let digits = after-decimal .decimal in
+    let most : digits .result ≤ decimalWidth = at-most-twenty _ _ word (digits .ensures .1 .0) in
+    rw (digits .ensures .1 .1, decimal-is _ _ word (digits .ensures .1 .0)) at
+    (within {k = decimalWidth} (omega (arith, digits .ensures .0 .1)) (after-put .put .ensures))
 
 pub put-decimal-spec : {M : Type 1} → statement M
 put-decimal-spec =

@@ -5,7 +5,10 @@ use Rattle.decimals.proofs.put_number.Statement.{statement}
 use Rattle.decimals.proofs.put_number.Tie as tie
 
 returns : tie.Need-returns
-returns c = then (c .before .before .before .before .before .before .put .ensures) (c .before .before .put-decimal .ensures)
+returns c =
+    let after-digits = c .before .before in
+    let after-space = after-digits .before .before .before .before in
+    then (after-space .put .ensures) (after-digits .put-decimal .ensures)
 
 pub put-number-spec : {M : Type 1} → statement M
 put-number-spec =

@@ -9,4 +9,6 @@ unfolding finiteLimits
 returns c = cc
 
 pub finite-limits-spec : {M : Type 1} → statement M
-finite-limits-spec = tie.close (tie.spec (λ c κs. search needs) (λ c κs. search needs) (λ c κs. search needs) (λ c κs. search needs) (λ c κs. search needs) returns)
+finite-limits-spec =
+    tie.close (tie.spec (λ c κs. search needs) (λ c κs. search needs) (λ c κs. search needs) (λ c κs. search needs)
+    (λ c κs. search needs) returns)

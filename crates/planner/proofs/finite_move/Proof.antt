@@ -9,4 +9,6 @@ unfolding finiteMove
 returns c = cc
 
 pub finite-move-spec : {M : Type 1} → statement M
-finite-move-spec = tie.close (tie.spec (λ c κs. search needs) (λ c κs. search needs) (λ c κs. search needs) (λ c κs. search needs) (λ c κs. search needs) returns)
+finite-move-spec =
+    tie.close (tie.spec (λ c κs. search needs) (λ c κs. search needs) (λ c κs. search needs) (λ c κs. search needs)
+    (λ c κs. search needs) returns)

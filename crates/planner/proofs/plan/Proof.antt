@@ -1,4 +1,5 @@
--- `planner::plan` meets its contract: its laws ask that the numbers are doubles, which the machine's are. Assumes nothing.
+-- `planner::plan` meets its contract: its laws ask that the numbers are doubles, which the machine's are. Assumes
+-- nothing.
 use denote.Floats.{passes}
 use borrow.Author.Needs.{needs}
 use Rattle.planner.proofs.PlanLaws.{PlanOfDoubles, promised}
@@ -16,7 +17,8 @@ returns c =
       beside-a = of-doubles _ _ (fields .1 .1 .0 .1 .1 .1 .0);
       beside-b = of-doubles _ _ (fields .1 .1 .1 .0 .1 .1 .1 .0);
     } in
-    promised _ _ (passes _ (move-fields .1 .1 .1 .0 .1)) (passes _ (move-fields .1 .1 .1 .1 .0 .1)) d (c .answer .ensures)
+    promised _ _ (passes _ (move-fields .1 .1 .1 .0 .1)) (passes _ (move-fields .1 .1 .1 .1 .0 .1)) d
+    (c .answer .ensures)
 
 pub plan-spec : {M : Type 1} → statement M
 plan-spec = tie.close (tie.spec (λ c κs. search needs) returns)

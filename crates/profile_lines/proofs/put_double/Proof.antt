@@ -5,7 +5,12 @@ use Rattle.profile_lines.proofs.put_double.Statement.{statement}
 use Rattle.profile_lines.proofs.put_double.Tie as tie
 
 returns : tie.Need-returns
-returns c = then (c .before .before .before .before .before .before .put .ensures) (c .before .before .put-hex .ensures)
+returns c =
+    let after-digits = c .before .before in
+    let after-space = after-digits .before .before .before .before in
+    then
+    (after-space .put .ensures)
+    (after-digits .put-hex .ensures)
 
 pub put-double-spec : {M : Type 1} → statement M
 put-double-spec =

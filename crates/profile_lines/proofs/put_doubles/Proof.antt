@@ -6,13 +6,13 @@ use borrow.Author.Needs.{needs}
 use lib.ListN.{length, take}
 use lib.Seq.{take-all}
 use Rattle.profile_lines.specs.Text.{Puts}
-use Rattle.profile_lines.specs.Fields.{doubleFields}
+use Rattle.profile_lines.specs.Fields.{doubleFields, doubleWidth}
 use Rattle.profile_lines.proofs.PutLaws.{nothing, then, within, one-more-double}
 use Rattle.profile_lines.proofs.put_doubles.Statement.{statement}
 use Rattle.profile_lines.proofs.put_doubles.Tie as tie
 
 abbrev Inv-loop : tie.InvT-loop
-Inv-loop out₀ at x end₀ i₀ out end i = (i ≤ length x) × Puts out₀ out at end (doubleFields (take i x)) (17 * i)
+Inv-loop out₀ at x end₀ i₀ out end i = (i ≤ length x) × Puts out₀ out at end (doubleFields (take i x)) (doubleWidth * i)
 
 abbrev μ-loop : tie.MeasureT-loop
 μ-loop out₀ at x end₀ i₀ out end i = length x - i
@@ -38,10 +38,15 @@ loop-less c = omega arith
 
 loop-again : tie.Need-loop-again Inv-loop μ-loop
 loop-again c =
-    let l = c .before .before .before .before .before .before .loop in
-    let xs = c .before .before .before .before .before .before .before .before .before .args .x .now in
-    let h : l .i < length xs = omega arith in
-    (omega arith, within (omega arith) (rw (one-more-double xs (l .i) _ h) at (then (l .inv .1) (c .before .before .put-double .ensures))))
+    let after-put = c .before .before in
+    let at-loop = after-put .before .before .before .before in
+    let at-entry = at-loop .before .before .before in
+    let l = at-loop .loop in
+    let xs = at-entry .args .x .now in
+    let h : l .i < length xs = omega arith in (
+      omega arith,
+      within (omega arith) (rw (one-more-double xs (l .i) _ h) at (then (l .inv .1) (after-put .put-double .ensures))),
+    )
 
 same-length : tie.Need-same-length Inv-loop μ-loop
 same-length c = c .before .loop .inv .1 .same

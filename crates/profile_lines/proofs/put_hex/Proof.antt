@@ -9,11 +9,10 @@ use Rattle.profile_lines.proofs.put_hex.Tie as tie
 returns : tie.Need-returns
 unfolding hex
 returns c =
-    within (omega arith) (rw (
-      c .before .before .before .before .before .hex16 .ensures,
-      c .before .before .before .before .before .before .bits-of .ensures,
-    ) at
-    (c .before .before .put .ensures))
+    let after-put = c .before .before in
+    let after-digits = after-put .before .before .before in
+    within (omega arith)
+    (rw (after-digits .hex16 .ensures, after-digits .before .bits-of .ensures) at (after-put .put .ensures))
 
 pub put-hex-spec : {M : Type 1} → statement M
 put-hex-spec =

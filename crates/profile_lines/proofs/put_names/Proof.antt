@@ -7,7 +7,14 @@ use Rattle.profile_lines.proofs.put_names.Tie as tie
 
 returns : tie.Need-returns
 unfolding nameFields
-returns c = then (then (c .before .before .before .before .before .before .before .before .before .before .put-direction .ensures) (c .before .before .before .before .before .before .put-limits .ensures)) (c .before .before .put-control-signs .ensures)
+returns c =
+    let after-signs = c .before .before in
+    let after-limits = after-signs .before .before .before .before in
+    let after-direction = after-limits .before .before .before .before in
+    then (then
+    (after-direction .put-direction .ensures)
+    (after-limits .put-limits .ensures))
+    (after-signs .put-control-signs .ensures)
 
 pub put-names-spec : {M : Type 1} → statement M
 put-names-spec =

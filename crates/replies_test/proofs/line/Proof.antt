@@ -3,7 +3,7 @@ use native.Mathlib.Omega.{arith}
 use mathlib.Core.Path.{sym}
 use lib.Seq.{length-take-le}
 use Rattle.profile_lines.proofs.PutLaws.{then, within, taken, counted}
-use Rattle.replies_test.specs.Lines.{answerOf}
+use Rattle.replies_test.specs.Lines.{answerOf, answerWidth}
 use borrow.Author.Needs.{needs}
 use Rattle.replies_test.proofs.line.Statement.{statement}
 use Rattle.replies_test.proofs.line.Tie as tie
@@ -13,20 +13,16 @@ slice-aggregate-put-rest c = sym (length-take-le _ _ (omega arith))
 
 put-rest-requires : tie.Need-put-rest-requires
 put-rest-requires c κs =
-    rw (taken (omega arith)
-    (c .before .before .before .before .reply-to .ensures .0)) (omega (
-      arith,
-      c .before .before .before .before .reply-to .ensures .0 .within,
-    ))
+    let reply = c .before .before .before .before .reply-to .ensures in
+    rw (taken (omega arith) (reply .0)) (omega (arith, reply .0 .within))
 
 returns : tie.Need-returns
 unfolding answerOf
 returns c =
-    let reply = c .before .before .before .before .before .reply-to .ensures in
-    let p = within {k = 136} (omega (arith, reply .0 .within))
-    (then
-    (rw (reply .1) at
-    (c .before .before .before .put-word .ensures))
+    let after-word = c .before .before .before in
+    let reply = after-word .before .before .reply-to .ensures in
+    let p = within {k = answerWidth} (omega (arith, reply .0 .within))
+    (then (rw (reply .1) at (after-word .put-word .ensures))
     (rw (taken (omega arith) (reply .0)) at (c .put-rest .ensures))) in
     (p, counted (omega arith) p)
 

@@ -9,16 +9,19 @@ use Rattle.replies_test.proofs.put_rest.Tie as tie
 
 returns : tie.Need-returns
 unfolding restOf
-returns c = rw (eq-eqb _ _ (c .before .before .before .before .before .if1 .taken)) (within (omega arith) (c .before .before .put .ensures))
+returns c =
+    let after-put = c .before .before in
+    let no-bytes = after-put .before .before .before in
+    rw (eq-eqb _ _ (no-bytes .if1 .taken)) (within (omega arith) (after-put .put .ensures))
 
 returns-2 : tie.Need-returns-2
 unfolding restOf
 returns-2 c =
-    rw (ne-eqb _ _
-    (c .before .before .before .before .before .before .before .before .before .if1 .left))
-    (within (omega arith) (then
-    (c .before .before .before .before .before .before .put2 .ensures)
-    (c .before .before .put3 .ensures)))
+    let after-reply = c .before .before in
+    let after-space = after-reply .before .before .before .before in
+    let some-bytes = after-space .before .before .before in
+    rw (ne-eqb _ _ (some-bytes .if1 .left))
+    (within (omega arith) (then (after-space .put2 .ensures) (after-reply .put3 .ensures)))
 
 pub put-rest-spec : {M : Type 1} → statement M
 put-rest-spec =

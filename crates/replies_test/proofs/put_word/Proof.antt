@@ -8,11 +8,17 @@ use Rattle.replies_test.proofs.put_word.Tie as tie
 
 returns : tie.Need-returns
 unfolding wordOf
-returns c = rw (c .before .before .before .before .before .if1 .taken) (c .before .before .put .ensures)
+returns c =
+    let after-put = c .before .before in
+    let going-on = after-put .before .before .before in
+    rw (going-on .if1 .taken) (after-put .put .ensures)
 
 returns-2 : tie.Need-returns-2
 unfolding wordOf
-returns-2 c = rw (c .before .before .before .before .before .if1 .left) (within (omega arith) (c .before .before .put2 .ensures))
+returns-2 c =
+    let after-put = c .before .before in
+    let ending = after-put .before .before .before in
+    rw (ending .if1 .left) (within (omega arith) (after-put .put2 .ensures))
 
 pub put-word-spec : {M : Type 1} → statement M
 put-word-spec =

@@ -4,7 +4,10 @@ use Rattle.stretch_lines.proofs.put_both_ends.Statement.{statement}
 use Rattle.stretch_lines.proofs.put_both_ends.Tie as tie
 
 returns : tie.Need-returns
-returns c = rw (c .before .before .before .before .before .before .left-end .ensures, c .before .before .before .before .before .right-end .ensures) at (c .before .before .put-doubles .ensures)
+returns c =
+    let after-put = c .before .before in
+    let after-right = after-put .before .before .before in
+    rw (after-right .before .left-end .ensures, after-right .right-end .ensures) at (after-put .put-doubles .ensures)
 
 pub put-both-ends-spec : {M : Type 1} → statement M
 put-both-ends-spec =

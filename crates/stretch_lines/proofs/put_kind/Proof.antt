@@ -6,13 +6,22 @@ use Rattle.stretch_lines.proofs.put_kind.Statement.{statement}
 use Rattle.stretch_lines.proofs.put_kind.Tie as tie
 
 returns : tie.Need-returns
-returns c = rw (c .before .before .before .before .before .enum-told .given .1) (within (omega arith) (c .before .before .put .ensures))
+returns c =
+    let after-put = c .before .before in
+    let in-arm = after-put .before .before .before in
+    rw (in-arm .enum-told .given .1) (within (omega arith) (after-put .put .ensures))
 
 returns-2 : tie.Need-returns-2
-returns-2 c = rw (c .before .before .before .before .before .enum-told2 .given .1) (within (omega arith) (c .before .before .put2 .ensures))
+returns-2 c =
+    let after-put = c .before .before in
+    let in-arm = after-put .before .before .before in
+    rw (in-arm .enum-told2 .given .1) (within (omega arith) (after-put .put2 .ensures))
 
 returns-3 : tie.Need-returns-3
-returns-3 c = rw (c .before .before .before .before .before .enum-told3 .given .1) (within (omega arith) (c .before .before .put3 .ensures))
+returns-3 c =
+    let after-put = c .before .before in
+    let in-arm = after-put .before .before .before in
+    rw (in-arm .enum-told3 .given .1) (within (omega arith) (after-put .put3 .ensures))
 
 pub put-kind-spec : {M : Type 1} → statement M
 put-kind-spec =

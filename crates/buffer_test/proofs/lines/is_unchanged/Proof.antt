@@ -1,4 +1,5 @@
--- `buffer_test::lines::is_unchanged` meets its contract: what is left of the buffer has the answer for the whole. Assumes nothing.
+-- `buffer_test::lines::is_unchanged` meets its contract: what is left of the buffer has the answer for the whole.
+-- Assumes nothing.
 use Prim.Native.Nat.{_-_, _≤_, _<_}
 use mathlib.Core.Path.{_≡_, refl, sym, _∙_}
 use native.Mathlib.Omega.{arith}

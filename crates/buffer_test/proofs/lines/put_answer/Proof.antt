@@ -8,18 +8,24 @@ use Rattle.buffer_test.proofs.lines.put_answer.Tie as tie
 returns : tie.Need-returns
 unfolding answerOf
 returns c =
-    let d = c .before .before .before .before .before .before .before .before .before .before .before .before .before .before in
+    let after-line-feed = c .before .before in
+    let line-feed-lent = after-line-feed .before in
+    let after-number = line-feed-lent .before .before .before .before in
+    let after-buffer = after-number .before .before .before .before in
+    let buffer-lent = after-buffer .before in
+    let after-status = buffer-lent .before .before .before .before in
+    let after-blocked = after-status .before .before in
+    let after-plan = after-blocked .before .before .before .before in
     rw (
-      d .before .before .before .before .is-blocked .ensures .status-is,
-      d .before .before .before .before .before .before .before .before .plan .ensures .status-is,
-      d .before .before .before .before .before .before .before .before .plan .ensures .after-is,
+      after-blocked .is-blocked .ensures .status-is,
+      after-plan .plan .ensures .status-is,
+      after-plan .plan .ensures .after-is,
     ) at
-    (then
-    (then (then
-    (d .before .before .put-decimal .ensures)
-    (c .before .before .before .before .before .before .before .before .before .before .before .put-buffer .ensures))
-    (c .before .before .before .before .before .before .before .put-number .ensures))
-    (c .before .before .put .ensures))
+    (then (then (then
+    (after-status .put-decimal .ensures)
+    (after-buffer .put-buffer .ensures))
+    (after-number .put-number .ensures))
+    (after-line-feed .put .ensures))
 
 pub put-answer-spec : {M : Type 1} → statement M
 put-answer-spec =

@@ -10,29 +10,27 @@ use Rattle.buffer_test.proofs.lines.put_buffer.Tie as tie
 
 returns : tie.Need-returns
 unfolding bufferFields
-returns c = rw (eq-eqb _ _ (c .before .before .before .before .if1 .taken)) (within (omega arith) (c .before .before .put-doubles .ensures))
+returns c =
+    rw (eq-eqb _ _ (c .before .before .before .before .if1 .taken))
+    (within (omega arith) (c .before .before .put-doubles .ensures))
 
 returns-2 : tie.Need-returns-2
 unfolding bufferFields
 returns-2 c =
-    rw (
-      ne-eqb _ _
-          (c .before .before .before .before .before .before .before .if1 .left),
-      sym (c .before .before .before .before .before .before .is-unchanged .ensures) ∙ c .before .before .before .before .before .if2 .taken,
-    )
-    (within (omega arith)
-    (c .before .before .put .ensures))
+    let after-put = c .before .before in
+    let same = after-put .before .before .before in
+    let refused = same .before .before in
+    rw (ne-eqb _ _ (refused .if1 .left), sym (same .before .is-unchanged .ensures) ∙ same .if2 .taken)
+    (within (omega arith) (after-put .put .ensures))
 
 returns-3 : tie.Need-returns-3
 unfolding bufferFields
 returns-3 c =
-    rw (
-      ne-eqb _ _
-          (c .before .before .before .before .before .before .before .if1 .left),
-      sym (c .before .before .before .before .before .before .is-unchanged .ensures) ∙ c .before .before .before .before .before .if2 .left,
-    )
-    (within (omega arith)
-    (c .before .before .put2 .ensures))
+    let after-put = c .before .before in
+    let other = after-put .before .before .before in
+    let refused = other .before .before in
+    rw (ne-eqb _ _ (refused .if1 .left), sym (other .before .is-unchanged .ensures) ∙ other .if2 .left)
+    (within (omega arith) (after-put .put2 .ensures))
 
 pub put-buffer-spec : {M : Type 1} → statement M
 put-buffer-spec =

@@ -5,7 +5,10 @@ use Rattle.moves.proofs.fields.put_count.Statement.{statement}
 use Rattle.moves.proofs.fields.put_count.Tie as tie
 
 returns : tie.Need-returns
-returns c = rw (c .before .before .before .before .before .count .ensures .0, c .before .before .before .before .count2 .ensures .0, count-field) at (c .before .before .put .ensures)
+returns c =
+    let after-put = c .before .before in
+    let after-counts = after-put .before .before in
+    rw (after-counts .before .count .ensures .0, after-counts .count2 .ensures .0, count-field) at (after-put .put .ensures)
 
 pub put-count-spec : {M : Type 1} → statement M
 put-count-spec =

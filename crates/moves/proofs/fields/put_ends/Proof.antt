@@ -11,10 +11,14 @@ unfolding doubleFields
 returns c = rw (c .enum-told .given .1) (within (omega arith) nothing)
 
 returns-2 : tie.Need-returns-2
-returns-2 c = let e = c .before .before .before .before .enum-told2 .given .1 in rw e (rw e at (c .before .before .put-both-ends .ensures))
+returns-2 c =
+    let e = c .before .before .before .before .enum-told2 .given .1 in
+    rw e (rw e at (c .before .before .put-both-ends .ensures))
 
 returns-3 : tie.Need-returns-3
-returns-3 c = let e = c .before .before .before .before .enum-told3 .given .1 in rw e (rw e at (c .before .before .put-both-ends2 .ensures))
+returns-3 c =
+    let e = c .before .before .before .before .enum-told3 .given .1 in
+    rw e (rw e at (c .before .before .put-both-ends2 .ensures))
 
 pub put-ends-spec : {M : Type 1} → statement M
 put-ends-spec =

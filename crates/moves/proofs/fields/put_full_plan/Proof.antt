@@ -7,7 +7,18 @@ use Rattle.moves.proofs.fields.put_full_plan.Tie as tie
 
 returns : tie.Need-returns
 unfolding fullFields
-returns c = then (then (then (then (c .before .before .before .before .before .before .before .before .before .before .before .before .before .before .before .before .before .before .put .ensures) (c .before .before .before .before .before .before .before .before .before .before .before .before .before .before .put-double .ensures)) (c .before .before .before .before .before .before .before .before .before .before .put-profile-fields .ensures)) (c .before .before .before .before .before .before .put-interval .ensures)) (c .before .before .put-interval2 .ensures)
+returns c =
+    let after-b = c .before .before in
+    let after-a = after-b .before .before .before .before in
+    let after-profile = after-a .before .before .before .before in
+    let after-duration = after-profile .before .before .before .before in
+    let after-ok = after-duration .before .before .before .before in
+    then (then (then (then
+    (after-ok .put .ensures)
+    (after-duration .put-double .ensures))
+    (after-profile .put-profile-fields .ensures))
+    (after-a .put-interval .ensures))
+    (after-b .put-interval2 .ensures)
 
 pub put-full-plan-spec : {M : Type 1} → statement M
 put-full-plan-spec =

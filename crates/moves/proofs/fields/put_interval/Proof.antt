@@ -7,7 +7,14 @@ use Rattle.moves.proofs.fields.put_interval.Tie as tie
 
 returns : tie.Need-returns
 unfolding intervalFields
-returns c = then (then (c .before .before .before .before .before .before .before .before .before .before .put-kind .ensures) (c .before .before .before .before .before .before .put-both-ends .ensures)) (c .before .before .put-profile-fields .ensures)
+returns c =
+    let after-profile = c .before .before in
+    let after-ends = after-profile .before .before .before .before in
+    let after-kind = after-ends .before .before .before .before in
+    then (then
+    (after-kind .put-kind .ensures)
+    (after-ends .put-both-ends .ensures))
+    (after-profile .put-profile-fields .ensures)
 
 pub put-interval-spec : {M : Type 1} → statement M
 put-interval-spec =

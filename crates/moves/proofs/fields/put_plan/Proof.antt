@@ -7,7 +7,18 @@ use Rattle.moves.proofs.fields.put_plan.Tie as tie
 
 returns : tie.Need-returns
 unfolding planFields
-returns c = then (then (then (then (c .before .before .before .before .before .before .before .before .before .before .before .before .before .before .before .before .before .before .put .ensures) (c .before .before .before .before .before .before .before .before .before .before .before .before .before .before .put-double .ensures)) (c .before .before .before .before .before .before .before .before .before .before .put-direction .ensures)) (c .before .before .before .before .before .before .put-limits .ensures)) (c .before .before .put-stretches .ensures)
+returns c =
+    let after-stretches = c .before .before in
+    let after-limits = after-stretches .before .before .before .before in
+    let after-direction = after-limits .before .before .before .before in
+    let after-duration = after-direction .before .before .before .before in
+    let after-ok = after-duration .before .before .before .before in
+    then (then (then (then
+    (after-ok .put .ensures)
+    (after-duration .put-double .ensures))
+    (after-direction .put-direction .ensures))
+    (after-limits .put-limits .ensures))
+    (after-stretches .put-stretches .ensures)
 
 pub put-plan-spec : {M : Type 1} → statement M
 put-plan-spec =

@@ -7,7 +7,12 @@ use Rattle.moves.proofs.fields.put_refusal.Tie as tie
 
 returns : tie.Need-returns
 unfolding refusalFields
-returns c = then (c .before .before .before .before .before .before .put .ensures) (c .before .before .put-number .ensures)
+returns c =
+    let after-number = c .before .before in
+    let after-word = after-number .before .before .before .before in
+    then
+    (after-word .put .ensures)
+    (after-number .put-number .ensures)
 
 pub put-refusal-spec : {M : Type 1} → statement M
 put-refusal-spec =

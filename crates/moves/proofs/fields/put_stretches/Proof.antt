@@ -7,7 +7,14 @@ use Rattle.moves.proofs.fields.put_stretches.Tie as tie
 
 returns : tie.Need-returns
 unfolding stretchFields
-returns c = then (then (c .before .before .before .before .before .before .before .before .before .before .put-count .ensures) (c .before .before .before .before .before .before .put-ends .ensures)) (c .before .before .put-ends2 .ensures)
+returns c =
+    let after-b = c .before .before in
+    let after-a = after-b .before .before .before .before in
+    let after-count = after-a .before .before .before .before in
+    then (then
+    (after-count .put-count .ensures)
+    (after-a .put-ends .ensures))
+    (after-b .put-ends2 .ensures)
 
 pub put-stretches-spec : {M : Type 1} → statement M
 put-stretches-spec =

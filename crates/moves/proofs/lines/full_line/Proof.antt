@@ -7,7 +7,10 @@ use Rattle.moves.proofs.lines.full_line.Tie as tie
 
 returns : tie.Need-returns
 unfolding fullLineOf
-returns c = then (then (c .before .before .before .before .before .put-decimal .ensures) (c .before .before .before .put-full-answer .ensures)) (c .put .ensures)
+returns c =
+    let after-answer = c .before .before .before in
+    let after-number = after-answer .before .before in
+    then (then (after-number .put-decimal .ensures) (after-answer .put-full-answer .ensures)) (c .put .ensures)
 
 pub full-line-spec : {M : Type 1} → statement M
 full-line-spec =

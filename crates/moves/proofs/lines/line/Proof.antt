@@ -7,7 +7,10 @@ use Rattle.moves.proofs.lines.line.Tie as tie
 
 returns : tie.Need-returns
 unfolding lineOf
-returns c = then (then (c .before .before .before .before .before .put-decimal .ensures) (c .before .before .before .put-answer .ensures)) (c .put .ensures)
+returns c =
+    let after-answer = c .before .before .before in
+    let after-number = after-answer .before .before in
+    then (then (after-number .put-decimal .ensures) (after-answer .put-answer .ensures)) (c .put .ensures)
 
 pub line-spec : {M : Type 1} → statement M
 line-spec =

@@ -9,11 +9,17 @@ use Rattle.moves.proofs.lines.put_answer.Tie as tie
 
 returns : tie.Need-returns
 unfolding answerFields
-returns c = rw (eq-eqb _ _ (c .before .before .before .before .before .if1 .taken)) (c .before .before .put-plan .ensures)
+returns c =
+    let after-plan = c .before .before in
+    let accepted = after-plan .before .before .before in
+    rw (eq-eqb _ _ (accepted .if1 .taken)) (after-plan .put-plan .ensures)
 
 returns-2 : tie.Need-returns-2
 unfolding answerFields
-returns-2 c = rw (ne-eqb _ _ (c .before .before .before .before .if1 .left)) (within (omega arith) (c .before .before .put-refusal .ensures))
+returns-2 c =
+    let after-refusal = c .before .before in
+    let refused = after-refusal .before .before in
+    rw (ne-eqb _ _ (refused .if1 .left)) (within (omega arith) (after-refusal .put-refusal .ensures))
 
 pub put-answer-spec : {M : Type 1} → statement M
 put-answer-spec =

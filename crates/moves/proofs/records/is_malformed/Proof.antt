@@ -11,7 +11,13 @@ returns c = rw (lt-ltb _ _ (c .if1 .taken))
 
 returns-2 : tie.Need-returns-2
 unfolding isMalformed
-returns-2 c = rw (le-ltb _ _ (c .before .before .before .if1 .left), c .before .before .byte-at .ensures .0, c .before .byte-at2 .ensures .0, c .byte-at3 .ensures .0)
+returns-2 c =
+    rw (
+      le-ltb _ _ (c .before .before .before .if1 .left),
+      c .before .before .byte-at .ensures .0,
+      c .before .byte-at2 .ensures .0,
+      c .byte-at3 .ensures .0,
+    )
 
 pub is-malformed-spec : {M : Type 1} → statement M
 is-malformed-spec =

@@ -7,17 +7,21 @@ use Rattle.moves.proofs.replies.reply_to.Statement.{statement}
 use Rattle.moves.proofs.replies.reply_to.Tie as tie
 
 returns : tie.Need-returns
-returns c = rw (sym (c .before .before .read-record .ensures .record-is) ∙ c .enum-told .given .1) (within (omega arith) nothing, refl)
+returns c =
+    rw (sym (c .before .before .read-record .ensures .record-is) ∙ c .enum-told .given .1)
+    (within (omega arith) nothing, refl)
 
 returns-2 : tie.Need-returns-2
 returns-2 c =
     let told = c .before .before .before in
-    rw (sym (told .before .before .read-record .ensures .record-is) ∙ told .enum-told2 .given .1) (rw (c .before .before .refused .ensures) at (c .line .ensures), refl)
+    rw (sym (told .before .before .read-record .ensures .record-is) ∙ told .enum-told2 .given .1)
+    (rw (c .before .before .refused .ensures) at (c .line .ensures), refl)
 
 returns-3 : tie.Need-returns-3
 returns-3 c =
     let told = c .before .before .before .before in
-    rw (sym (told .before .before .read-record .ensures .record-is) ∙ told .x .given .1) (rw (c .before .before .plan .ensures .0) at (c .line2 .ensures), refl)
+    rw (sym (told .before .before .read-record .ensures .record-is) ∙ told .x .given .1)
+    (rw (c .before .before .plan .ensures .0) at (c .line2 .ensures), refl)
 
 pub reply-to-spec : {M : Type 1} → statement M
 reply-to-spec =

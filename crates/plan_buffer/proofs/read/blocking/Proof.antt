@@ -12,16 +12,32 @@ returns c = rw (← c .before .is-finite .ensures, not-true (c .before .is-finit
 returns-2 : tie.Need-returns-2
 unfolding blockingFrom isBlockedFrom
 returns-2 c =
-    let finite-time = c .before .before .before .before .before .before .before .before .before .before in
+    let after-b = c .before .before in
+    let after-a = after-b .before in
+    let finite-time = after-a .before in
     let test = finite-time .before .is-finite in
-    rw (← test .ensures, not-false (test .result) (finite-time .if1 .left), ← c .before .before .before .before .before .before .inside .ensures, ← c .before .before .inside2 .ensures, c .if2 .taken)
+    rw (
+      ← test .ensures,
+      not-false (test .result) (finite-time .if1 .left),
+      ← after-a .inside-at .ensures,
+      ← after-b .inside-at2 .ensures,
+      c .if2 .taken,
+    )
 
 returns-3 : tie.Need-returns-3
 unfolding blockingFrom isBlockedFrom
 returns-3 c =
-    let finite-time = c .before .before .before .before .before .before .before .before .before .before in
+    let after-b = c .before .before in
+    let after-a = after-b .before in
+    let finite-time = after-a .before in
     let test = finite-time .before .is-finite in
-    rw (← test .ensures, not-false (test .result) (finite-time .if1 .left), ← c .before .before .before .before .before .before .inside .ensures, ← c .before .before .inside2 .ensures, c .if2 .left)
+    rw (
+      ← test .ensures,
+      not-false (test .result) (finite-time .if1 .left),
+      ← after-a .inside-at .ensures,
+      ← after-b .inside-at2 .ensures,
+      c .if2 .left,
+    )
 
 pub blocking-spec : {M : Type 1} → statement M
 blocking-spec =
@@ -29,13 +45,7 @@ blocking-spec =
     (tie.spec
     (λ c κs. search needs)
     returns
-    (λ c. search needs)
-    (λ c. search needs)
-    (λ c. search needs)
     (λ c κs. search needs)
-    (λ c. search needs)
-    (λ c. search needs)
-    (λ c. search needs)
     (λ c κs. search needs)
     (λ c. search needs)
     returns-2

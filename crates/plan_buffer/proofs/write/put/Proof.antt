@@ -1,4 +1,5 @@
--- `plan_buffer::write::put` meets its contract. The invariant of its loop: the first i numbers are stored. Assumes nothing.
+-- `plan_buffer::write::put` meets its contract. The invariant of its loop: the first i numbers are stored. Assumes
+-- nothing.
 use Prim.Native.Nat.{_+_, _-_, _≤_}
 use mathlib.Core.Path.{_≡_, refl, _∙_}
 use native.Mathlib.Numerals.{add-one}

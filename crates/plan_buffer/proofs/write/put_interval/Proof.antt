@@ -8,13 +8,16 @@ use Rattle.plan_buffer.proofs.write.put_interval.Tie as tie
 
 returns : tie.Need-returns
 returns c =
-    let ends = c .before .before .before .before .before .before .before .before .before in
+    let after-profile = c .before .before in
+    let after-put = after-profile .before .before .before .before in
+    let after-ends = after-put .before .before .before in
+    let after-kind = after-ends .before .before in
     interval-stored _ _ _ _ _ _ _ _
-    (ends .before .before .numeral .ensures ∙ ap numeral (ends .before .before .before .kind-number .ensures))
-    (ends .before .left-end .ensures)
-    (ends .right-end .ensures)
-    (c .before .before .before .before .before .before .put .ensures)
-    (c .before .before .put-profile .ensures)
+    (after-kind .numeral .ensures ∙ ap numeral (after-kind .before .kind-number .ensures))
+    (after-ends .before .left-end .ensures)
+    (after-ends .right-end .ensures)
+    (after-put .put .ensures)
+    (after-profile .put-profile .ensures)
 
 pub put-interval-spec : {M : Type 1} → statement M
 put-interval-spec =

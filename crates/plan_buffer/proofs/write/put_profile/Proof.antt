@@ -8,17 +8,20 @@ use Rattle.plan_buffer.proofs.write.put_profile.Tie as tie
 
 returns : tie.Need-returns
 returns c =
-    let rows = c .before .before .before .before .before .before .before in
-    let phases = rows .before .before .before .before in
-    let names = phases .before .before .before .before .before .before .before .before .before .before .before .before .before in
-    profile-stored _ _ _ _ _ _ _ _ _ _
-    (names .before .before .before .before .numeral .ensures ∙ ap numeral (names .before .before .before .before .before .direction-number .ensures))
-    (names .before .before .numeral2 .ensures ∙ ap numeral (names .before .before .before .limits-number .ensures))
-    (names .numeral3 .ensures ∙ ap numeral (names .before .control-signs-number .ensures))
-    (phases .before .before .before .before .put .ensures)
-    (phases .put-phases .ensures)
-    (rows .put-rows .ensures)
-    (c .before .before .put2 .ensures)
+    let after-doubles = c .before .before in
+    let doubles-lent = after-doubles .before in
+    let after-names = doubles-lent .before .before .before .before in
+    let with-doubles = after-names .before .before .before in
+    let with-signs = with-doubles .before in
+    let with-limits = with-signs .before .before in
+    let with-direction = with-limits .before .before in
+    profile-stored _ _ _ _ _ _ _ _ _
+    (with-direction .numeral .ensures ∙ ap numeral (with-direction .before .direction-number .ensures))
+    (with-limits .numeral2 .ensures ∙ ap numeral (with-limits .before .limits-number .ensures))
+    (with-signs .numeral3 .ensures ∙ ap numeral (with-signs .before .control-signs-number .ensures))
+    (with-doubles .doubles .ensures)
+    (after-names .put .ensures)
+    (after-doubles .put2 .ensures)
 
 pub put-profile-spec : {M : Type 1} → statement M
 put-profile-spec =
@@ -30,9 +33,6 @@ put-profile-spec =
     (λ c κs. search needs)
     (λ c κs. search needs)
     (λ c κs. search needs)
-    (λ c. search needs)
-    (λ c κs. search needs)
-    (λ c. search needs)
     (λ c κs. search needs)
     (λ c. search needs)
     (λ c κs. search needs)

@@ -5,7 +5,16 @@ use Rattle.plan_buffer.proofs.write.write_plan.Statement.{statement}
 use Rattle.plan_buffer.proofs.write.write_plan.Tie as tie
 
 returns : tie.Need-returns
-returns c = plan-stored _ _ _ _ _ _ (search needs) (c .before .before .before .before .before .before .before .before .before .before .before .before .before .before .put .ensures) (c .before .before .before .before .before .before .before .before .before .before .put-profile .ensures) (c .before .before .before .before .before .before .put-interval .ensures) (c .before .before .put-interval2 .ensures)
+returns c =
+    let after-b = c .before .before in
+    let after-a = after-b .before .before .before .before in
+    let after-profile = after-a .before .before .before .before in
+    let after-duration = after-profile .before .before .before .before in
+    plan-stored _ _ _ _ _ _ (search needs)
+    (after-duration .put .ensures)
+    (after-profile .put-profile .ensures)
+    (after-a .put-interval .ensures)
+    (after-b .put-interval2 .ensures)
 
 pub write-plan-spec : {M : Type 1} → statement M
 write-plan-spec =

@@ -6,7 +6,14 @@ use Rattle.profile.proofs.Limits.bounds.Tie as tie
 
 returns : tie.Need-returns
 unfolding boundsOf
-returns c = rw (c .before .before .before .up-else .ensures, c .before .before .up-else2 .ensures, c .before .up-else3 .ensures, c .up-else4 .ensures, c .before .before .before .before .direction .ensures)
+returns c =
+    rw (
+      c .before .before .before .up-else .ensures,
+      c .before .before .up-else2 .ensures,
+      c .before .up-else3 .ensures,
+      c .up-else4 .ensures,
+      c .before .before .before .before .direction .ensures,
+    )
 
 pub bounds-spec : {M : Type 1} → statement M
 bounds-spec =
