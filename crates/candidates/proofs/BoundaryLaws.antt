@@ -16,12 +16,15 @@ use Rattle.profile.specs.declared.Profile.{Profile}
 use Rattle.profile.specs.declared.Start.{Start}
 use Rattle.profile.specs.declared.Target.{Target}
 use Rattle.profile.specs.declared.ControlSigns.the-variants.{UDDU}
-use Rattle.candidates.specs.Try.{Try, passes, profileOf}
+use Rattle.candidates.specs.Try.{passes, profileOf}
+use Rattle.candidates.specs.declared.Try.{Try}
 use Rattle.candidates.specs.List.{slot, profileIn, stored, added, freshList}
 use Rattle.candidates.specs.Counted.{Counted, AcceptedOf, Sized, EightRows, Ready, Sound}
 use Rattle.candidates.specs.declared.Candidates.{Candidates}
 use Rattle.candidates.proofs.CheckLaws.{checked-yes, start-of, target-of, brake-of, accel-of}
-use Rattle.candidates.proofs.CountLaws.{from-brake, from-accel, five-or-below, index-above, index-below, slot-stored, slot-next, slot-other, stored-sized, brake-then, accel-then, added-counted}
+use Rattle.candidates.proofs.CountLaws.{from-brake, from-accel, five-or-below, index-above, index-below}
+use Rattle.candidates.proofs.CountLaws.{slot-stored, slot-next, slot-other, stored-sized}
+use Rattle.candidates.proofs.CountLaws.{brake-then, accel-then, added-counted}
 
 -- ---- eight rows
 empty-rows : EightRows emptyProfile
@@ -55,8 +58,16 @@ module _ (input : Profile) where
   unfolding freshList
   fresh-rows i l =
       ⊎-elim
-      (λ e. subst (λ (k : ℕ). EightRows (getD (set (replicate 6 emptyProfile) 0 (boundaryFrom emptyProfile input)) k emptyProfile)) (sym e) (from-rows emptyProfile input empty-rows))
-      (λ h. subst EightRows (sym (getD-set-other (replicate 6 emptyProfile) 0 i (boundaryFrom emptyProfile input) emptyProfile (λ e. omega arith) ∙ getD-replicate 6 i emptyProfile emptyProfile l)) empty-rows)
+      (λ e.
+      subst (λ (k : ℕ). EightRows (getD (set (replicate 6 emptyProfile) 0 (boundaryFrom emptyProfile input)) k emptyProfile))
+      (sym e)
+      (from-rows emptyProfile input empty-rows))
+      (λ h.
+      subst EightRows
+      (sym
+      (getD-set-other (replicate 6 emptyProfile) 0 i (boundaryFrom emptyProfile input) emptyProfile (λ e. omega arith)
+      ∙ getD-replicate 6 i emptyProfile emptyProfile l))
+      empty-rows)
       (eq-zero-or-pos i)
 
   pub fresh-ready : Ready (startOf input) (targetOf input) (input .brake) (input .accel) (freshList input)
@@ -71,12 +82,14 @@ module _ (input : Profile) where
         accel-is = from-accel emptyProfile input;
       }
 
-  pub fresh-sound : (G : Try → Type 0) → Sound G (startOf input) (targetOf input) (input .brake) (input .accel) (freshList input)
+  pub fresh-sound : (G : Try → Type 0)
+      → Sound G (startOf input) (targetOf input) (input .brake) (input .accel) (freshList input)
   unfolding freshList
   fresh-sound G = record { ready = fresh-ready; counted = λ i l. absurd (let none : ⊥ = omega arith in none) }
 
 -- ---- an accepted try is added
-module _ {start : Start} {target : Target} {brake accel : Float} (c : Candidates) (x : Try) (r : Ready start target brake accel c) (es : x .start ≡ start) (et : x .target ≡ target) where
+module _ {start : Start} {target : Target} {brake accel : Float} (c : Candidates) (x : Try)
+    (r : Ready start target brake accel c) (es : x .start ≡ start) (et : x .target ≡ target) where
   profile-own : profileIn c x ≡ profileOf brake accel x
   profile-own = rw (r .brake-is, r .accel-is)
 
@@ -86,7 +99,11 @@ module _ {start : Start} {target : Target} {brake accel : Float} (c : Candidates
       let profile-start : startOf (profileIn c x) ≡ start = start-of _ _ x ∙ es in
       ⊎-elim
       (λ above. rw (index-above c (profileIn c x) above) (ap startOf (slot-stored c (profileIn c x) (r .sized)) ∙ profile-start))
-      (λ below. rw (index-below c (profileIn c x) below) (ap startOf (slot-next c (profileIn c x) (r .sized) below) ∙ start-from _ (profileIn c x) (r .rows (c .«current_index» + 1) (omega arith)) ∙ profile-start))
+      (λ below.
+      rw (index-below c (profileIn c x) below)
+      (ap startOf (slot-next c (profileIn c x) (r .sized) below)
+      ∙ start-from _ (profileIn c x) (r .rows (c .«current_index» + 1) (omega arith))
+      ∙ profile-start))
       (five-or-below c (profileIn c x) (r .sized))
 
   target-then : targetOf (slot (stored c (profileIn c x)) (stored c (profileIn c x) .«current_index»)) ≡ target
@@ -94,19 +111,32 @@ module _ {start : Start} {target : Target} {brake accel : Float} (c : Candidates
       let profile-target : targetOf (profileIn c x) ≡ target = target-of _ _ x ∙ et in
       ⊎-elim
       (λ above. rw (index-above c (profileIn c x) above) (ap targetOf (slot-stored c (profileIn c x) (r .sized)) ∙ profile-target))
-      (λ below. rw (index-below c (profileIn c x) below) (ap targetOf (slot-next c (profileIn c x) (r .sized) below) ∙ target-from _ (profileIn c x) (r .rows (c .«current_index» + 1) (omega arith)) ∙ profile-target))
+      (λ below.
+      rw (index-below c (profileIn c x) below)
+      (ap targetOf (slot-next c (profileIn c x) (r .sized) below)
+      ∙ target-from _ (profileIn c x) (r .rows (c .«current_index» + 1) (omega arith))
+      ∙ profile-target))
       (five-or-below c (profileIn c x) (r .sized))
 
   rows-then : (i : ℕ) → i < 6 → EightRows (slot (stored c (profileIn c x)) i)
   rows-then i l =
-      let other : i ≢ c .«current_index» → i ≢ (c .«current_index» + 1) → EightRows (slot (stored c (profileIn c x)) i) = λ g h. subst EightRows (sym (slot-other c (profileIn c x) (r .sized) i g h)) (r .rows i l) in
+      let other : i ≢ c .«current_index» → i ≢ (c .«current_index» + 1) → EightRows (slot (stored c (profileIn c x)) i) =
+      λ g h. subst EightRows (sym (slot-other c (profileIn c x) (r .sized) i g h)) (r .rows i l) in
       elim (decLe i (c .«current_index»)) [
         | yes a ↦ ⊎-elim
-            (λ e. subst EightRows (sym (ap (λ (k : ℕ). slot (stored c (profileIn c x)) k) e ∙ slot-stored c (profileIn c x) (r .sized))) (profile-rows _ _ x))
+            (λ e.
+            subst EightRows
+            (sym (ap (λ (k : ℕ). slot (stored c (profileIn c x)) k) e ∙ slot-stored c (profileIn c x) (r .sized)))
+            (profile-rows _ _ x))
             (λ below. other (λ e. omega arith) (λ e. omega arith))
             (eq-or-lt-of-le a)
         | no a ↦ ⊎-elim
-            (λ e. subst EightRows (sym (ap (λ (k : ℕ). slot (stored c (profileIn c x)) k) (sym e) ∙ slot-next c (profileIn c x) (r .sized) (omega arith))) (from-rows _ (profileIn c x) (r .rows (c .«current_index» + 1) (omega arith))))
+            (λ e.
+            subst EightRows
+            (sym
+            (ap (λ (k : ℕ). slot (stored c (profileIn c x)) k) (sym e)
+            ∙ slot-next c (profileIn c x) (r .sized) (omega arith)))
+            (from-rows _ (profileIn c x) (r .rows (c .«current_index» + 1) (omega arith))))
             (λ above. other (λ e. omega arith) (λ e. omega arith))
             (eq-or-lt-of-le (let next : c .«current_index» + 1 ≤ i = omega arith in next))
       ]
@@ -124,12 +154,15 @@ module _ {start : Start} {target : Target} {brake accel : Float} (c : Candidates
       }
 
   -- the check of the slot's own profile at the try's times, as the Rust has it, says yes and gives what is added
-  pub slot-checked : (g : Profile) → startOf g ≡ startOf (slot c (c .«current_index»)) → targetOf g ≡ targetOf (slot c (c .«current_index»)) → g .brake ≡ slot c (c .«current_index») .brake → g .accel ≡ slot c (c .«current_index») .accel → g .t ≡ x .t
+  pub slot-checked : (g : Profile) → startOf g ≡ startOf (slot c (c .«current_index»))
+      → targetOf g ≡ targetOf (slot c (c .«current_index»)) → g .brake ≡ slot c (c .«current_index») .brake
+      → g .accel ≡ slot c (c .«current_index») .accel → g .t ≡ x .t
       → passes x ≡ true → checked g UDDU (x .reached) false (x .jf) (x .limits) ≡ record { ok = true; profile = profileIn c x }
   slot-checked g gs gt gb ga e p = rw (← gb, ← ga) (checked-yes x g (gs ∙ r .start-is ∙ sym es) (gt ∙ r .target-is ∙ sym et) e p)
 
   -- and what counts then was accepted
-  pub added-sound : {G : Try → Type 0} → Counted (AcceptedOf G brake accel) c → G x → passes x ≡ true → Sound G start target brake accel (added c x)
+  pub added-sound : {G : Try → Type 0} → Counted (AcceptedOf G brake accel) c → G x → passes x ≡ true
+      → Sound G start target brake accel (added c x)
   added-sound {G} h g p =
       record {
         ready = added-ready;

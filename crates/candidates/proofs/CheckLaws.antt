@@ -11,7 +11,8 @@ use Rattle.profile.specs.declared.Limits.{Limits}
 use Rattle.profile.specs.declared.ReachedLimits.{ReachedLimits}
 use Rattle.profile.specs.declared.ControlSigns.{ControlSigns}
 use Rattle.profile.specs.declared.ControlSigns.the-variants.{UDDU}
-use Rattle.candidates.specs.Try.{Try, passes, profileOf}
+use Rattle.candidates.specs.Try.{passes, profileOf}
+use Rattle.candidates.specs.declared.Try.{Try}
 
 -- the check fills in everything but the boundary
 pub filled-boundary : (q r : Profile) (t : List Float) (signs : ControlSigns) (reached : ReachedLimits) (set-limits : Bool) (jf : Float) (m : Limits)
@@ -32,16 +33,19 @@ module _ (x : Try) (g : Profile) (es : startOf g ≡ x .start) (et : targetOf g 
   filled-is : filled g (g .t) UDDU (x .reached) false (x .jf) (x .limits) ≡ profileOf (g .brake) (g .accel) x
   unfolding profileOf withBoundary emptyProfile
   filled-is =
-      filled-boundary g (withBoundary emptyProfile (x .start) (x .target) (g .brake) (g .accel)) (g .t) UDDU (x .reached) false (x .jf) (x .limits) es et refl refl
-      ∙ ap (λ (t : List Float). filled (withBoundary emptyProfile (x .start) (x .target) (g .brake) (g .accel)) t UDDU (x .reached) false (x .jf) (x .limits)) e
+      let boundary = withBoundary emptyProfile (x .start) (x .target) (g .brake) (g .accel) in
+      filled-boundary g boundary (g .t) UDDU (x .reached) false (x .jf) (x .limits) es et refl refl
+      ∙ ap (λ (t : List Float). filled boundary t UDDU (x .reached) false (x .jf) (x .limits)) e
 
   -- where the try passes, the check says yes and gives the try's profile
-  pub checked-yes : passes x ≡ true → checked g UDDU (x .reached) false (x .jf) (x .limits) ≡ record { ok = true; profile = profileOf (g .brake) (g .accel) x }
+  pub checked-yes : passes x ≡ true
+      → checked g UDDU (x .reached) false (x .jf) (x .limits) ≡ record { ok = true; profile = profileOf (g .brake) (g .accel) x }
   unfolding checked
   checked-yes h = rw (accepted-is, h, filled-is)
 
   -- and else no, and gives what it was given
-  pub checked-no : passes x ≡ false → checked g UDDU (x .reached) false (x .jf) (x .limits) ≡ record { ok = false; profile = g }
+  pub checked-no : passes x ≡ false
+      → checked g UDDU (x .reached) false (x .jf) (x .limits) ≡ record { ok = false; profile = g }
   unfolding checked
   checked-no h = rw (accepted-is, h)
 
@@ -64,6 +68,7 @@ module _ (brake accel : Float) (x : Try) where
   accel-of = refl
 
   -- and the check makes the same profile of it again
-  pub checked-again : passes x ≡ true → checked (profileOf brake accel x) UDDU (profileOf brake accel x .limits) false (x .jf) (x .limits) ≡ record { ok = true; profile = profileOf brake accel x }
+  pub checked-again : passes x ≡ true
+      → checked (profileOf brake accel x) UDDU (profileOf brake accel x .limits) false (x .jf) (x .limits) ≡ record { ok = true; profile = profileOf brake accel x }
   unfolding profileOf filled withBoundary
   checked-again h = checked-yes x (profileOf brake accel x) start-of target-of refl h

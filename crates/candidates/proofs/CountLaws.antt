@@ -11,7 +11,7 @@ use lib.ListN.{length, set, length-set}
 use lib.Seq.{getD-set-same, getD-set-other}
 use Rattle.profile.specs.Boundary.{emptyProfile, withBoundary, boundaryFrom}
 use Rattle.profile.specs.declared.Profile.{Profile}
-use Rattle.candidates.specs.Try.{Try}
+use Rattle.candidates.specs.declared.Try.{Try}
 use Rattle.candidates.specs.List.{slot, profileIn, stored, added}
 use Rattle.candidates.specs.Counted.{Counted, Sized, SameCounted}
 use Rattle.candidates.specs.declared.Candidates.{Candidates}
@@ -40,7 +40,9 @@ module _ (c : Candidates) (q : Profile) where
     pub slot-other : (i : ℕ) → i ≢ c .«current_index» → i ≢ (c .«current_index» + 1) → slot (stored c q) i ≡ slot c i
     slot-other i h g =
         ⊎-elim
-        (λ above. ap (λ (z : Candidates). slot z i) (sym (stored-above c q above)) ∙ getD-set-other (c .«valid_profiles») (c .«current_index») i q emptyProfile h)
+        (λ above.
+        ap (λ (z : Candidates). slot z i) (sym (stored-above c q above))
+        ∙ getD-set-other (c .«valid_profiles») (c .«current_index») i q emptyProfile h)
         (λ below.
         ap (λ (z : Candidates). slot z i) (sym (stored-below c q below refl))
         ∙ getD-set-other (set (c .«valid_profiles») (c .«current_index») q) (c .«current_index» + 1) i _ emptyProfile g
@@ -51,14 +53,17 @@ module _ (c : Candidates) (q : Profile) where
     slot-stored =
         let here : c .«current_index» < length (c .«valid_profiles») = omega (arith, s .six, s .at-most-five) in
         ⊎-elim
-        (λ above. ap (λ (z : Candidates). slot z (c .«current_index»)) (sym (stored-above c q above)) ∙ getD-set-same (c .«valid_profiles») (c .«current_index») q emptyProfile here)
+        (λ above.
+        ap (λ (z : Candidates). slot z (c .«current_index»)) (sym (stored-above c q above))
+        ∙ getD-set-same (c .«valid_profiles») (c .«current_index») q emptyProfile here)
         (λ below.
         ap (λ (z : Candidates). slot z (c .«current_index»)) (sym (stored-below c q below refl))
         ∙ getD-set-other (set (c .«valid_profiles») (c .«current_index») q) (c .«current_index» + 1) (c .«current_index») _ emptyProfile (λ e. omega arith)
         ∙ getD-set-same (c .«valid_profiles») (c .«current_index») q emptyProfile here)
         five-or-below
 
-    pub slot-next : c .«current_index» < 5 → slot (stored c q) (c .«current_index» + 1) ≡ boundaryFrom (slot c (c .«current_index» + 1)) q
+    pub slot-next : c .«current_index» < 5
+        → slot (stored c q) (c .«current_index» + 1) ≡ boundaryFrom (slot c (c .«current_index» + 1)) q
     slot-next below =
         let within : c .«current_index» + 1 < length (set (c .«valid_profiles») (c .«current_index») q) = simp length-set (omega (arith, s .six)) in
         ap (λ (z : Candidates). slot z (c .«current_index» + 1)) (sym (stored-below c q below refl))
@@ -68,27 +73,37 @@ module _ (c : Candidates) (q : Profile) where
     pub stored-sized : Sized (stored c q)
     stored-sized =
         ⊎-elim
-        (λ above. subst (λ (z : Candidates). Sized z) (stored-above c q above) (record { six = simp length-set (s .six); at-most-five = s .at-most-five }))
-        (λ below. subst (λ (z : Candidates). Sized z) (stored-below c q below refl) (record { six = simp length-set (s .six); at-most-five = omega arith }))
+        (λ above.
+        subst (λ (z : Candidates). Sized z) (stored-above c q above)
+        (record { six = simp length-set (s .six); at-most-five = s .at-most-five }))
+        (λ below.
+        subst (λ (z : Candidates). Sized z) (stored-below c q below refl)
+        (record { six = simp length-set (s .six); at-most-five = omega arith }))
         five-or-below
 
     -- a slot that counts then counted before, or is the one that was stored to
     pub counts-then : (i : ℕ) → i < stored c q .«current_index» → (i ≡ c .«current_index») ⊎ (i < c .«current_index»)
-    counts-then i l = eq-or-lt-of-le (⊎-elim (λ above. omega (arith, index-above above)) (λ below. omega (arith, index-below below)) five-or-below)
+    counts-then i l =
+        eq-or-lt-of-le
+        (⊎-elim (λ above. omega (arith, index-above above)) (λ below. omega (arith, index-below below)) five-or-below)
 
     -- the durations of the slot that is current then are q's
     pub brake-then : slot (stored c q) (stored c q .«current_index») .brake ≡ q .brake
     brake-then =
         ⊎-elim
         (λ above. rw (index-above above) (ap (λ (z : Profile). z .brake) slot-stored))
-        (λ below. rw (index-below below) (ap (λ (z : Profile). z .brake) (slot-next below) ∙ from-brake (slot c (c .«current_index» + 1)) q))
+        (λ below.
+        rw (index-below below)
+        (ap (λ (z : Profile). z .brake) (slot-next below) ∙ from-brake (slot c (c .«current_index» + 1)) q))
         five-or-below
 
     pub accel-then : slot (stored c q) (stored c q .«current_index») .accel ≡ q .accel
     accel-then =
         ⊎-elim
         (λ above. rw (index-above above) (ap (λ (z : Profile). z .accel) slot-stored))
-        (λ below. rw (index-below below) (ap (λ (z : Profile). z .accel) (slot-next below) ∙ from-accel (slot c (c .«current_index» + 1)) q))
+        (λ below.
+        rw (index-below below)
+        (ap (λ (z : Profile). z .accel) (slot-next below) ∙ from-accel (slot c (c .«current_index» + 1)) q))
         five-or-below
 
 -- ---- at most five count
@@ -106,7 +121,8 @@ added-counts c x = by (ltb (c .«current_index») 5) refl
     by false e = omega (arith, ltb-false (c .«current_index») 5 e, index-above c (profileIn c x) (ltb-false (c .«current_index») 5 e))
 
 -- ---- what holds of each profile that counts, and of the one that is added, holds of each that counts then
-pub added-counted : (P : Profile → Type 0) (c : Candidates) (x : Try) → Sized c → Counted P c → P (profileIn c x) → Counted P (added c x)
+pub added-counted : (P : Profile → Type 0) (c : Candidates) (x : Try) → Sized c → Counted P c → P (profileIn c x)
+    → Counted P (added c x)
 unfolding added
 added-counted P c x s h p i l =
     let q = profileIn c x in

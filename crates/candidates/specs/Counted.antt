@@ -8,7 +8,8 @@ use Rattle.profile.specs.Boundary.{startOf, targetOf}
 use Rattle.profile.specs.declared.Profile.{Profile}
 use Rattle.profile.specs.declared.Start.{Start}
 use Rattle.profile.specs.declared.Target.{Target}
-use Rattle.candidates.specs.Try.{Try, passes, profileOf}
+use Rattle.candidates.specs.Try.{passes, profileOf}
+use Rattle.candidates.specs.declared.Try.{Try}
 use Rattle.candidates.specs.List.{slot}
 use Rattle.candidates.specs.declared.Candidates.{Candidates}
 
@@ -28,8 +29,8 @@ pub record Sized (c : Candidates) : Type 0 where
   pub six : length (c .«valid_profiles») ≡ 6
   pub at-most-five : c .«current_index» ≤ 5
 
--- the same profiles count, and the next one would have the same durations. What else the slots hold that don't count may differ,
--- as it does in the Rust after tries that failed
+-- the same profiles count, and the next one would have the same durations. What else the slots hold that don't count
+-- may differ, as it does in the Rust after tries that failed
 pub record SameCounted (c d : Candidates) : Type 0 where
   pub sized : Sized c
   pub sized′ : Sized d

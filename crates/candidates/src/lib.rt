@@ -10,6 +10,16 @@ use profile::ReachedLimits;
 use profile::Start;
 use profile::Target;
 
+// Seven times that a family of step 1 puts to the check, from a start to a target.
+pub struct Try {
+    pub start: Start,
+    pub target: Target,
+    pub t: [f64; 7],
+    pub reached: ReachedLimits,
+    pub jf: f64,
+    pub limits: Limits,
+}
+
 // Six profiles, of which the first `current_index` count. The one after them is where the next try is made.
 pub struct Candidates {
     pub valid_profiles: [Profile; 6],
@@ -17,16 +27,14 @@ pub struct Candidates {
 }
 
 // Whether the check accepts a try.
-pub fn passes(
-    start: Start,
-    target: Target,
-    t: [f64; 7],
-    reached: ReachedLimits,
-    jf: f64,
-    limits: Limits,
-) -> bool
-    ensures { λ r. ⌜ r ≡ passes (record { start = start; target = target; t = t; reached = reached; jf = jf; limits = limits }) ⌝ }
+pub fn passes(x: Try) -> bool
+    ensures { λ r. ⌜ r ≡ passes x ⌝ }
 {
+    let start = x.start;
+    let target = x.target;
+    let t = x.t;
+    let reached = x.reached;
+    let limits = x.limits;
     profile_check::accepts(
         start,
         target,
@@ -34,29 +42,33 @@ pub fn passes(
         ControlSigns::UDDU,
         reached,
         false,
-        jf,
+        x.jf,
         limits,
     )
 }
 
 // The profile that the check makes of a try, with these durations.
-pub fn profile_of(
-    brake: f64,
-    accel: f64,
-    start: Start,
-    target: Target,
-    t: [f64; 7],
-    reached: ReachedLimits,
-    jf: f64,
-    limits: Limits,
-) -> Profile
-    ensures { λ r. ⌜ r ≡ profileOf brake accel (record { start = start; target = target; t = t; reached = reached; jf = jf; limits = limits }) ⌝ }
+pub fn profile_of(brake: f64, accel: f64, x: Try) -> Profile
+    ensures { λ r. ⌜ r ≡ profileOf brake accel x ⌝ }
 {
+    let start = x.start;
+    let target = x.target;
+    let t = x.t;
+    let reached = x.reached;
+    let limits = x.limits;
     let mut empty = Profile::empty();
     empty.brake = brake;
     empty.accel = accel;
     let boundary = empty.with_boundary(start, target);
-    profile_check::filled(boundary, t, ControlSigns::UDDU, reached, false, jf, limits)
+    profile_check::filled(
+        boundary,
+        t,
+        ControlSigns::UDDU,
+        reached,
+        false,
+        x.jf,
+        limits,
+    )
 }
 
 impl Candidates {
@@ -75,30 +87,13 @@ impl Candidates {
     }
 
     // The list with an accepted try.
-    pub fn add_profile(
-        mut self,
-        start: Start,
-        target: Target,
-        t: [f64; 7],
-        reached: ReachedLimits,
-        jf: f64,
-        limits: Limits,
-    ) -> Candidates
-        ensures { λ r. ⌜ r ≡ added self (record { start = start; target = target; t = t; reached = reached; jf = jf; limits = limits }) ⌝ }
+    pub fn add_profile(mut self, x: Try) -> Candidates
+        ensures { λ r. ⌜ r ≡ added self x ⌝ }
     {
         let at = self.current_index;
         if at < 6 {
             let slot = self.valid_profiles[at];
-            let profile = profile_of(
-                slot.brake,
-                slot.accel,
-                start,
-                target,
-                t,
-                reached,
-                jf,
-                limits,
-            );
+            let profile = profile_of(slot.brake, slot.accel, x);
             self.valid_profiles[at] = profile;
             if at < 5 {
                 let next = at + 1;

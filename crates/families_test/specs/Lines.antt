@@ -1,12 +1,12 @@
 -- The line that answers a record: how many profiles were added, and each of them. Definitions only.
-use Prim.Native.Nat.{ℕ, _-_}
+use Prim.Native.Nat.{ℕ, _+_, _*_, _-_}
 use mathlib.Core.Bool.{cond, _&&_}
 use mathlib.Core.List.{List, [], _++_}
 use lib.Dec.{eqb, ltb, leb}
 use lib.ListN.{getD}
 use Rattle.profile_lines.specs.Text.{ascii}
-use Rattle.profile_lines.specs.Fields.{profileFields}
-use Rattle.decimals.specs.Decimal.{decimal}
+use Rattle.profile_lines.specs.Fields.{profileFields, profileWidth}
+use Rattle.decimals.specs.Decimal.{decimal, decimalWidth}
 use Rattle.profile_check.specs.declared.Checked.{Checked}
 use Rattle.candidates.specs.List.{slot}
 use Rattle.candidates.specs.declared.Candidates.{Candidates}
@@ -29,6 +29,13 @@ addedLine c n =
 
 unfoldable pub singleLine : Checked → List ℕ
 singleLine x = cond (x .ok) (ascii "1" ++ profileFields (x .profile) ++ ascii "\n") (ascii "0\n")
+
+-- ---- how many bytes each may take
+abbrev pub addedWidth : ℕ
+addedWidth = decimalWidth + 6 * profileWidth + 1
+
+abbrev pub singleWidth : ℕ
+singleWidth = 1 + profileWidth + 1
 
 -- family 7 is the single-step path; a list that counts more than five profiles has no line
 unfoldable pub lineOf : List ℕ → List ℕ

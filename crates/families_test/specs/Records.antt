@@ -1,5 +1,5 @@
--- What the bytes of a record mean: a move's 13 doubles, then a byte each for the family, the direction, `return_after_found` and how many profiles the list counts
--- already. Definitions only.
+-- What the bytes of a record mean: a move's 13 doubles, then a byte each for the family, the direction,
+-- `return_after_found` and how many profiles the list counts already. Definitions only.
 use Prim.Native.Nat.{ℕ}
 use mathlib.Core.Bool.{cond}
 use mathlib.Core.List.{List}

@@ -5,21 +5,27 @@ ghost use Prim.Native.Nat.{_+_, _-_, _≤_, _<_};
 ghost use lib.ListN.{length};
 ghost use Rattle.io.specs.Counts.{Counts};
 ghost use Rattle.profile_lines.specs.Text.{Puts};
-ghost use Rattle.families_test.specs.Lines.{ifAdded, addedLine, singleLine, lineOf};
+ghost use Rattle.profile_lines.specs.Fields.{profileWidth};
+ghost use Rattle.families_test.specs.Lines.{ifAdded, addedLine, singleLine, lineOf, addedWidth, singleWidth};
 use crate::records::after_family;
 use crate::records::list_of;
 use crate::records::single_step;
 use candidates::Candidates;
+use decimals::DECIMAL_WIDTH;
 use decimals::put_decimal;
 use encoding::byte_at;
 use profile_check::Checked;
+use profile_lines::PROFILE_WIDTH;
 use profile_lines::put;
 use profile_lines::put_profile_fields;
 
+// The longest line: how many there are, six profiles and a line feed.
+pub const LINE_LENGTH: usize = DECIMAL_WIDTH + 6 * PROFILE_WIDTH + 1;
+
 // The profile in a slot, if it is one that was added to those counted before.
 fn put_if_added(out: &mut [u8], end: usize, c: Candidates, counted: usize, at: usize) -> usize
-    requires { ⌜ (at < 6) × (end + 872 ≤ length (now out)) ⌝ }
-    ensures { λ r. ⌜ Puts (now (out .entry)) (now (out .exit)) end r (ifAdded c counted at) 872 ⌝ }
+    requires { ⌜ (at < 6) × (end + profileWidth ≤ length (now out)) ⌝ }
+    ensures { λ r. ⌜ Puts (now (out .entry)) (now (out .exit)) end r (ifAdded c counted at) profileWidth ⌝ }
 {
     if (counted <= at) & (at < c.current_index) {
         let q = c.valid_profiles[at];
@@ -39,8 +45,8 @@ fn above(n: usize, counted: usize) -> u64
 }
 
 fn put_added(out: &mut [u8], at: usize, c: Candidates, counted: usize) -> usize
-    requires { ⌜ at + 5253 ≤ length (now out) ⌝ }
-    ensures { λ r. ⌜ Puts (now (out .entry)) (now (out .exit)) at r (addedLine c counted) 5253 ⌝ }
+    requires { ⌜ at + addedWidth ≤ length (now out) ⌝ }
+    ensures { λ r. ⌜ Puts (now (out .entry)) (now (out .exit)) at r (addedLine c counted) addedWidth ⌝ }
 {
     let count_end = put_decimal(out, at, above(c.current_index, counted));
     let end0 = put_if_added(out, count_end, c, counted, 0);
@@ -53,8 +59,8 @@ fn put_added(out: &mut [u8], at: usize, c: Candidates, counted: usize) -> usize
 }
 
 fn put_single(out: &mut [u8], at: usize, x: Checked) -> usize
-    requires { ⌜ at + 874 ≤ length (now out) ⌝ }
-    ensures { λ r. ⌜ Puts (now (out .entry)) (now (out .exit)) at r (singleLine x) 874 ⌝ }
+    requires { ⌜ at + singleWidth ≤ length (now out) ⌝ }
+    ensures { λ r. ⌜ Puts (now (out .entry)) (now (out .exit)) at r (singleLine x) singleWidth ⌝ }
 {
     if x.ok {
         let profile = x.profile;
@@ -66,8 +72,8 @@ fn put_single(out: &mut [u8], at: usize, x: Checked) -> usize
 }
 
 // The line of a record, at the start of out, and how long it is.
-pub fn line(bytes: &[u8; 108], out: &mut [u8; 5253]) -> usize
-    ensures { λ r. ⌜ Puts (now (out .entry)) (now (out .exit)) 0 r (lineOf (now (bytes .entry))) 5253 ⌝ }
+pub fn line(bytes: &[u8; 108], out: &mut [u8; LINE_LENGTH]) -> usize
+    ensures { λ r. ⌜ Puts (now (out .entry)) (now (out .exit)) 0 r (lineOf (now (bytes .entry))) addedWidth ⌝ }
     ensures { λ r. ⌜ Counts r (now (out .exit)) ⌝ }
 {
     if byte_at(bytes, 104) == 7 {

@@ -1,10 +1,12 @@
-// Calls of single families in, the profiles that they add out, as the oracle's program `families` has them. A record is a move's 13 big-endian doubles, then a byte each
-// for the family, the direction, `return_after_found` and how many profiles the list counts already. A line is how many profiles were added, and each of them.
+// Calls of single families in, the profiles that they add out, as the oracle's program `families` has them. A record is
+// a move's 13 big-endian doubles, then a byte each for the family, the direction, `return_after_found` and how many
+// profiles the list counts already. A line is how many profiles were added, and each of them.
 // oracle/tools/make_stored.py makes the stored input and output.
 
 mod records; // records.rt: what the bytes of a record mean
 mod lines; // lines.rt: the line that answers a record
 
+use lines::LINE_LENGTH;
 use lines::line;
 
 // Answers one record, and says whether there was one that has a line, and its line could be written.
@@ -13,7 +15,7 @@ fn answer() -> bool {
     if io::read_full(0, &mut bytes) < 108 {
         return false;
     }
-    let mut text = [0u8; 5253];
+    let mut text = [0u8; LINE_LENGTH];
     let length = line(&bytes, &mut text);
     (length > 0) & io::write_all(1, &text[..length])
 }

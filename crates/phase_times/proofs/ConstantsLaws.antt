@@ -17,6 +17,7 @@ opposite-square (inf false) = refl
 opposite-square (fin true m e) = refl
 opposite-square (fin false m e) = refl
 
-pub either-direction : (start : Start) (target : Target) (m : Limits) → constantsOf start target (swappedLimits m) ≡ constantsOf start target m
+pub either-direction : (start : Start) (target : Target) (m : Limits)
+    → constantsOf start target (swappedLimits m) ≡ constantsOf start target m
 unfolding constantsOf swappedLimits
 either-direction start target m = rw opposite-square

@@ -1,4 +1,5 @@
--- The definitions on numbers, by computation: document 01's move 2, and a rest-to-rest move of 6 that reaches both accelerations and no speed.
+-- The definitions on numbers, by computation: document 01's move 2, and a rest-to-rest move of 6 that reaches both
+-- accelerations and no speed.
 use mathlib.Core.Bool.{true, false}
 use mathlib.Core.List.{List, [], _∷_}
 use mathlib.Core.Path.{_≡_, refl}

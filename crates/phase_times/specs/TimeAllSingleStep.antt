@@ -1,4 +1,5 @@
--- Phase times of time_all_single_step, where no jerk is allowed, and its tests. Only phase 3 takes time. Definitions only.
+-- Phase times of time_all_single_step, where no jerk is allowed, and its conditions. Only phase 3 takes time.
+-- Definitions only.
 use mathlib.Core.Bool.{Bool}
 use mathlib.Core.List.{List, [], _∷_}
 use lib.Ieee.{Float}

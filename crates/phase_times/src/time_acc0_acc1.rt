@@ -1,7 +1,9 @@
 // Phase times of the two solutions of time_acc0_acc1, the numbers h1 to h3 and the guards.
 
 ghost use mathlib.Core.Path.{_≡_};
-ghost use Rattle.phase_times.specs.TimeAcc0Acc1.{acc0Acc1Radicand, acc0Acc1H1, acc0Acc1H2, acc0Acc1H3, admitsAcc0Acc1Solution2, admitsAcc0Acc1Solution1, timesAcc0Acc1Solution2, timesAcc0Acc1Solution1};
+ghost use Rattle.phase_times.specs.TimeAcc0Acc1.{acc0Acc1Radicand, acc0Acc1H1, acc0Acc1H2, acc0Acc1H3};
+ghost use Rattle.phase_times.specs.TimeAcc0Acc1.{admitsAcc0Acc1Solution2, admitsAcc0Acc1Solution1};
+ghost use Rattle.phase_times.specs.TimeAcc0Acc1.{timesAcc0Acc1Solution2, timesAcc0Acc1Solution1};
 use crate::constants::Constants;
 use profile::Limits;
 use profile::Start;

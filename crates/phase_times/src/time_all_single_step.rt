@@ -1,7 +1,10 @@
-// Phase times of time_all_single_step, where no jerk is allowed, and its tests. Only phase 3 takes time.
+// Phase times of time_all_single_step, where no jerk is allowed, and its conditions. Only phase 3 takes time.
 
 ghost use mathlib.Core.Path.{_≡_};
-ghost use Rattle.phase_times.specs.TimeAllSingleStep.{changesAcceleration, startsAccelerated, startsMoving, startsAtTarget, hasPhase3, singleStepRadicand, timesSingleStepSolution1, timesSingleStepSolution2, timesAtConstantSpeed, zeroTimes};
+ghost use Rattle.phase_times.specs.TimeAllSingleStep.{changesAcceleration, startsAccelerated, startsMoving};
+ghost use Rattle.phase_times.specs.TimeAllSingleStep.{startsAtTarget, hasPhase3, singleStepRadicand};
+ghost use Rattle.phase_times.specs.TimeAllSingleStep.{timesSingleStepSolution1, timesSingleStepSolution2};
+ghost use Rattle.phase_times.specs.TimeAllSingleStep.{timesAtConstantSpeed, zeroTimes};
 use crate::constants::Constants;
 use doubles::EPSILON;
 use profile::Start;

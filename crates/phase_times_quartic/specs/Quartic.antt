@@ -1,4 +1,4 @@
--- A monic quartic: shifted, and the test whether a root of at least 0 is possible. Definitions only.
+-- A monic quartic: shifted, and whether a root of at least 0 is possible. Definitions only.
 use mathlib.Core.Bool.{Bool, _||_}
 use lib.Ieee.{Float}
 use Rattle.doubles.specs.Operators.{_+ᶠ_, _*ᶠ_, _<ᶠ_, _≤ᶠ_}

@@ -1,4 +1,5 @@
--- The try ACC0 of time_all_none_acc0_acc1: its polynomial, the correction of a root, and the phase times. Definitions only.
+-- The try ACC0 of time_all_none_acc0_acc1: its polynomial, the correction of a root, and the phase times. Definitions
+-- only.
 use mathlib.Core.Bool.{cond}
 use mathlib.Core.List.{List, [], _∷_}
 use lib.Ieee.{Float}

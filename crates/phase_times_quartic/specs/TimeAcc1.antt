@@ -1,4 +1,5 @@
--- The try ACC1 of time_all_none_acc0_acc1: its polynomial, the correction of a root, and the phase times. Definitions only.
+-- The try ACC1 of time_all_none_acc0_acc1: its polynomial, the correction of a root, and the phase times. Definitions
+-- only.
 use mathlib.Core.List.{List, [], _∷_}
 use lib.Ieee.{Float}
 use Rattle.doubles.specs.Operators.{_+ᶠ_, _-ᶠ_, _*ᶠ_, _/ᶠ_, -ᶠ_}

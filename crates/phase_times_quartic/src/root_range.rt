@@ -9,7 +9,7 @@ pub struct RootRange {
 }
 
 impl RootRange {
-    // Whether the root t is passed over. A bound that is a NaN keeps it, so the test is not to be turned round.
+    // Whether the root t is passed over. A bound that is a NaN keeps it, so the comparison is not to be turned round.
     pub fn skips(self, t: f64) -> bool
         ensures { λ r. ⌜ r ≡ isSkipped self t ⌝ }
     {

@@ -15,11 +15,11 @@ use Rattle.doubles.specs.Constants.{0ᶠ}
 use Rattle.profile.specs.declared.Start.{Start}
 use Rattle.profile.specs.declared.Target.{Target}
 use Rattle.profile.specs.declared.Limits.{Limits}
-use Rattle.profile.specs.declared.ReachedLimits.{ReachedLimits}
 use Rattle.phase_times.specs.declared.constants.Constants.{Constants}
 use Rattle.phase_times_quartic.specs.RootRange.{isSkipped}
 use Rattle.phase_times_quartic.specs.declared.quartic.Quartic.{Quartic}
-use Rattle.candidates.specs.Try.{Try, passes}
+use Rattle.candidates.specs.Try.{passes}
+use Rattle.candidates.specs.declared.Try.{Try}
 use Rattle.candidates.specs.List.{added}
 use Rattle.candidates.specs.declared.Candidates.{Candidates}
 use Rattle.roots.specs.List.{noRoots, inserted, rootsOf, ascendingOf}
@@ -27,8 +27,8 @@ use Rattle.roots.specs.Reading.{insertedAll}
 use Rattle.roots.specs.Quartic.{quarticOf}
 use Rattle.roots.specs.declared.list.Roots.{Roots}
 use Rattle.roots.proofs.QuarticLaws.{Made, made, quartic-made}
-use Rattle.position_third_step1.specs.CheckTree.{found, tries, tryOf}
-use Rattle.position_third_step1.specs.TimeAllNoneAcc0Acc1.{rootsIf, reachedBy, timesBy, acc0Roots, acc1Roots, nthRoots, rootTry, triesFor, rootTries, noneAcc0Acc1Tries}
+use Rattle.position_third_step1.specs.CheckTree.{found, tries}
+use Rattle.position_third_step1.specs.TimeAllNoneAcc0Acc1.{rootsIf, acc0Roots, acc1Roots, nthRoots, rootTry, triesFor, rootTries, noneAcc0Acc1Tries}
 use Rattle.position_third_step1.specs.declared.none_acc0_acc1.RootTries.{RootTries}
 use Rattle.position_third_step1.proofs.TryLaws.{After, goes-on, stops}
 
@@ -37,7 +37,8 @@ inserted-count : (l : Roots) (x : Float) → l .count ≤ 4 → inserted l x .co
 unfolding inserted
 inserted-count l x h = by (0ᶠ ≤ᶠ x) (ltb (l .count) 4) refl
   where
-    by : (g b : Bool) → ltb (l .count) 4 ≡ b → cond (g && b) (record { values = set (l .values) (l .count) x; count = l .count + 1 }) l .count ≤ 4
+    by : (g b : Bool) → ltb (l .count) 4 ≡ b
+        → cond (g && b) (record { values = set (l .values) (l .count) x; count = l .count + 1 }) l .count ≤ 4
     by true true e = omega (arith, ltb-true (l .count) 4 e)
     by true false e = h
     by false b e = h
@@ -60,7 +61,8 @@ four-roots true q = simp length-take (omega (arith, quartic-count (q .c0) (q .c1
 four-roots false q = omega arith
 
 -- ---- the root i, and those after it
-pub root-here : (l : Roots) (i : ℕ) → length (l .values) ≡ 4 → i < l .count → i < 4 → drop i (rootsOf l) ≡ at (l .values) i ∷ drop (i + 1) (rootsOf l)
+pub root-here : (l : Roots) (i : ℕ) → length (l .values) ≡ 4 → i < l .count → i < 4
+    → drop i (rootsOf l) ≡ at (l .values) i ∷ drop (i + 1) (rootsOf l)
 root-here l i four h g =
     let within : i < length (rootsOf l) = simp length-take (omega arith) in
     drop-cons (rootsOf l) i nan within ∙ rw (add-one, getD-take (l .count) (l .values) i nan h)
@@ -79,7 +81,8 @@ module _ (start : Start) (target : Target) (k : Constants) (m : Limits) where
   triesFrom (suc (suc zero)) = rootTries start target k m (acc1Roots start target k m) []
   triesFrom (suc (suc (suc n))) = []
 
-  pub tries-from : (n : ℕ) → n < 3 → triesFrom n ≡ rootTries start target k m (nthRoots start target k m n) (triesFrom (n + 1))
+  pub tries-from : (n : ℕ) → n < 3
+      → triesFrom n ≡ rootTries start target k m (nthRoots start target k m n) (triesFrom (n + 1))
   unfolding triesFrom noneAcc0Acc1Tries nthRoots
   tries-from zero h = refl
   tries-from (suc zero) h = refl
@@ -95,7 +98,8 @@ module _ (start : Start) (target : Target) (k : Constants) (m : Limits) where
 
   module _ (stop : Bool) (c : Candidates) (s : RootTries) where
     -- the tries from a polynomial on begin with those of its roots
-    pub entered : (n : ℕ) → n < 3 → s ≡ nthRoots start target k m n → found (tries stop c (rootTries start target k m s (triesFrom (n + 1)))) ≡ found (tries stop c (triesFrom n))
+    pub entered : (n : ℕ) → n < 3 → s ≡ nthRoots start target k m n
+        → found (tries stop c (rootTries start target k m s (triesFrom (n + 1)))) ≡ found (tries stop c (triesFrom n))
     entered n h e = rw e (ap (λ (xs : List Try). found (tries stop c xs)) (sym (tries-from n h)))
 
     module _ {ls : List Float} (xs : List Try) where
@@ -105,13 +109,13 @@ module _ (start : Start) (target : Target) (k : Constants) (m : Limits) where
 
       -- ts are the roots after the root t of ls, and xs the tries after those; skip says whether t is skipped
       module _ (t : Float) (ts : List Float) (e : ls ≡ t ∷ ts) {skip : Bool} (es : skip ≡ isSkipped (s .range) t) where
-        pub root-goes-on : {d : Candidates} → After added stop c (not skip) (rootTry start target k m s t) d → found (tries stop d (triesFor start target k m s ts xs)) ≡ found (tries stop c (triesFor start target k m s ls xs))
+        pub root-goes-on : {d : Candidates} → After added stop c (not skip) (rootTry start target k m s t) d
+            → found (tries stop d (triesFor start target k m s ts xs)) ≡ found (tries stop c (triesFor start target k m s ls xs))
         unfolding triesFor
         root-goes-on a = rw (e, ← es) (goes-on added _ a refl)
 
-        pub root-stops : {y : Try} {ok : Bool} {r : Candidates} → not skip ≡ true → y ≡ rootTry start target k m s t → ok ≡ passes y → ok ≡ true → stop ≡ true → r ≡ added c y → r ≡ found (tries stop c (triesFor start target k m s ls xs))
+        pub root-stops : {y : Try} {ok : Bool} {r : Candidates} → not skip ≡ true → y ≡ rootTry start target k m s t
+            → ok ≡ passes y → ok ≡ true → stop ≡ true → r ≡ added c y
+            → r ≡ found (tries stop c (triesFor start target k m s ls xs))
         unfolding triesFor
         root-stops h ex a y found e′ = rw (e, ← es) (stops added _ stop c h ex a y found e′)
-
-  pub root-try-is : (s : RootTries) (u : Float) {reached : ReachedLimits} {t : List Float} → reached ≡ reachedBy (s .polynom) → t ≡ timesBy (s .polynom) (s .h0) (s .h2) (s .h3) start target k m u → tryOf start target m reached t ≡ rootTry start target k m s u
-  root-try-is s u er et = rw (er, et)

@@ -1,5 +1,6 @@
 -- Trees of checks: tries put to the check one after the other. Definitions only.
--- No try of step 1 depends on the answer to another, so a family is the list of its tries. What is left to do from a try on is the list from there on.
+-- No try of step 1 depends on the answer to another, so a family is the list of its tries. What is left to do from a
+-- try on is the list from there on.
 use mathlib.Core.Path.{_≡_}
 use mathlib.Core.Bool.{Bool, true, false}
 use mathlib.Core.List.{List, _∷_}
@@ -10,7 +11,8 @@ use Rattle.profile.specs.declared.Limits.{Limits}
 use Rattle.profile.specs.declared.ReachedLimits.{ReachedLimits}
 use Rattle.trees.specs.Tree.{Tree, run}
 use Rattle.trees.specs.InTurn.{inTurn}
-use Rattle.candidates.specs.Try.{Try, passes}
+use Rattle.candidates.specs.Try.{passes}
+use Rattle.candidates.specs.declared.Try.{Try}
 use Rattle.candidates.specs.List.{added}
 use Rattle.candidates.specs.declared.Candidates.{Candidates}
 

@@ -1,4 +1,5 @@
--- The order of a family's tries, by what tells them apart: the name of the limits, and the phases that take no time. Definitions only.
+-- The order of a family's tries, by what tells them apart: the name of the limits, and the phases that take no time.
+-- Definitions only.
 use Prim.Native.Nat.{ℕ}
 use mathlib.Core.Path.{_≡_}
 use mathlib.Core.Bool.{cond}
@@ -10,7 +11,7 @@ use Rattle.profile.specs.declared.ReachedLimits.{ReachedLimits}
 use Rattle.phase_times_quartic.specs.RootRange.{isSkipped}
 use Rattle.phase_times_quartic.specs.declared.root_range.RootRange.{RootRange}
 use Rattle.roots.specs.List.{rootsOf}
-use Rattle.candidates.specs.Try.{Try}
+use Rattle.candidates.specs.declared.Try.{Try}
 use Rattle.position_third_step1.specs.declared.none_acc0_acc1.RootTries.{RootTries}
 
 -- a try's name, and phases that take no time

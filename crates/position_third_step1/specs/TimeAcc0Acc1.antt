@@ -11,7 +11,7 @@ use Rattle.profile.specs.declared.Limits.{Limits}
 use Rattle.profile.specs.declared.ReachedLimits.the-variants.{Acc0Acc1}
 use Rattle.phase_times.specs.TimeAcc0Acc1.{acc0Acc1Radicand, acc0Acc1H1, acc0Acc1H2, acc0Acc1H3, admitsAcc0Acc1Solution2, admitsAcc0Acc1Solution1, timesAcc0Acc1Solution2, timesAcc0Acc1Solution1}
 use Rattle.phase_times.specs.declared.constants.Constants.{Constants}
-use Rattle.candidates.specs.Try.{Try}
+use Rattle.candidates.specs.declared.Try.{Try}
 use Rattle.candidates.specs.declared.Candidates.{Candidates}
 use Rattle.candidates.specs.List.{added}
 use Rattle.position_third_step1.specs.declared.acc0_acc1.Acc0Acc1Tries.{Acc0Acc1Tries}
@@ -20,8 +20,11 @@ use Rattle.position_third_step1.specs.CheckTree.{CheckTree, tries, tryOf
 -- solution 2, then solution 1, each where its guard admits it
 unfoldable pub acc0Acc1Solutions : Start → Target → Limits → (h1 h2 h3 : Float) → List Try
 acc0Acc1Solutions start target m h1 h2 h3 =
-    onlyIf (admitsAcc0Acc1Solution2 m h1 h2 h3) (tryOf start target m Acc0Acc1 (timesAcc0Acc1Solution2 start target m h1 h2 h3))
-    (onlyIf (admitsAcc0Acc1Solution1 m h1 h2 h3) (tryOf start target m Acc0Acc1 (timesAcc0Acc1Solution1 start target m h1 h2 h3)) [])
+    onlyIf (admitsAcc0Acc1Solution2 m h1 h2 h3)
+    (tryOf start target m Acc0Acc1 (timesAcc0Acc1Solution2 start target m h1 h2 h3))
+    (onlyIf (admitsAcc0Acc1Solution1 m h1 h2 h3)
+    (tryOf start target m Acc0Acc1 (timesAcc0Acc1Solution1 start target m h1 h2 h3))
+    [])
 
 -- none for a radicand below 0, or a NaN
 unfoldable pub acc0Acc1Tries : Start → Target → Constants → Limits → List Try

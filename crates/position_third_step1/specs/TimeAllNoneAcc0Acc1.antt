@@ -1,5 +1,6 @@
 -- `time_all_none_acc0_acc1`: a try for each root of three quartics. Definitions only.
--- The Rust solves the three before the first try, and so does this list; a family that stops early need not, since roots depend on no try.
+-- The Rust solves the three before the first try, and so does this list; a family that stops early need not, since
+-- roots depend on no try.
 use Prim.Native.Nat.{ℕ}
 use mathlib.Core.Bool.{Bool, true, false, not, cond}
 use mathlib.Core.List.{List, [], _∷_}
@@ -22,7 +23,7 @@ use Rattle.phase_times_quartic.specs.declared.quartic.Quartic.{Quartic}
 use Rattle.roots.specs.List.{noRoots, rootsOf, ascendingOf}
 use Rattle.roots.specs.Quartic.{quarticOf}
 use Rattle.roots.specs.declared.list.Roots.{Roots}
-use Rattle.candidates.specs.Try.{Try}
+use Rattle.candidates.specs.declared.Try.{Try}
 use Rattle.candidates.specs.declared.Candidates.{Candidates}
 use Rattle.position_third_step1.specs.CheckTree.{CheckTree, tries, tryOf, onlyIf}
 use Rattle.position_third_step1.specs.declared.none_acc0_acc1.Polynom.{Polynom}
@@ -89,7 +90,8 @@ timesBy ACC1 h0 h2 h3 start target k m t = timesAcc1 start target m h3 (correcte
 
 module _ (start : Start) (target : Target) (k : Constants) (m : Limits) where
   abbrev pub rootTry : RootTries → Float → Try
-  rootTry s t = tryOf start target m (reachedBy (s .polynom)) (timesBy (s .polynom) (s .h0) (s .h2) (s .h3) start target k m t)
+  rootTry s t =
+      tryOf start target m (reachedBy (s .polynom)) (timesBy (s .polynom) (s .h0) (s .h2) (s .h3) start target k m t)
 
   -- a try for each root that is not skipped, and then the tries xs
   unfoldable pub triesFor : RootTries → (roots : List Float) → List Try → List Try
@@ -98,13 +100,17 @@ module _ (start : Start) (target : Target) (k : Constants) (m : Limits) where
 
   -- the polynomials in turn
   unfoldable pub nthRoots : ℕ → RootTries
-  nthRoots n = cond (eqb n 0) (noneRoots start target k m) (cond (eqb n 1) (acc0Roots start target k m) (acc1Roots start target k m))
+  nthRoots n =
+      cond (eqb n 0) (noneRoots start target k m) (cond (eqb n 1) (acc0Roots start target k m) (acc1Roots start target k m))
 
   abbrev pub rootTries : RootTries → List Try → List Try
   rootTries s xs = triesFor s (rootsOf (s .roots)) xs
 
   unfoldable pub noneAcc0Acc1Tries : List Try
-  noneAcc0Acc1Tries = rootTries (noneRoots start target k m) (rootTries (acc0Roots start target k m) (rootTries (acc1Roots start target k m) []))
+  noneAcc0Acc1Tries =
+      rootTries (noneRoots start target k m)
+      (rootTries (acc0Roots start target k m) (rootTries (acc1Roots start target k m) []))
 
-abbrev pub timeAllNoneAcc0Acc1 : Candidates → Start → Target → Constants → Limits → (return-after-found : Bool) → CheckTree
+abbrev pub timeAllNoneAcc0Acc1 : Candidates → Start → Target → Constants → Limits → (return-after-found : Bool)
+    → CheckTree
 timeAllNoneAcc0Acc1 c start target k m return-after-found = tries return-after-found c (noneAcc0Acc1Tries start target k m)

@@ -10,11 +10,14 @@ use Rattle.profile.specs.declared.Start.{Start}
 use Rattle.profile.specs.declared.Target.{Target}
 use Rattle.profile.specs.declared.Limits.{Limits}
 use Rattle.profile.specs.declared.ReachedLimits.the-variants.{None}
-use Rattle.phase_times.specs.TimeAllSingleStep.{changesAcceleration, startsAccelerated, startsMoving, startsAtTarget, hasPhase3, singleStepRadicand, timesSingleStepSolution1, timesSingleStepSolution2, timesAtConstantSpeed, zeroTimes}
+use Rattle.phase_times.specs.TimeAllSingleStep.{changesAcceleration, startsAccelerated, startsMoving, startsAtTarget}
+use Rattle.phase_times.specs.TimeAllSingleStep.{hasPhase3, singleStepRadicand, timesSingleStepSolution1}
+use Rattle.phase_times.specs.TimeAllSingleStep.{timesSingleStepSolution2, timesAtConstantSpeed, zeroTimes}
 use Rattle.phase_times.specs.declared.constants.Constants.{Constants}
 use Rattle.trees.specs.Tree.{Tree}
 use Rattle.trees.specs.InTurn.{inTurn}
-use Rattle.candidates.specs.Try.{Try, profileOf}
+use Rattle.candidates.specs.Try.{profileOf}
+use Rattle.candidates.specs.declared.Try.{Try}
 use Rattle.position_third_step1.specs.CheckTree.{onlyIf}
 
 -- its checks are made at jerk 0

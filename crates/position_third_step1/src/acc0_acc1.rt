@@ -4,6 +4,7 @@ ghost use mathlib.Core.Path.{_≡_};
 ghost use Rattle.position_third_step1.specs.CheckTree.{found};
 ghost use Rattle.position_third_step1.specs.TimeAcc0Acc1.{withPassing, timeAcc0Acc1};
 ghost use Rattle.candidates.specs.declared.Candidates.{Candidates};
+use crate::tries::try_of;
 use candidates::Candidates;
 use candidates::passes;
 use phase_times::constants::Constants;
@@ -50,12 +51,12 @@ fn acc0_acc1_tries(
         let h3 = acc0_acc1_h3(target, k, m);
         if admits_acc0_acc1_solution_2(m, h1, h2, h3) {
             t2 = times_acc0_acc1_solution_2(start, target, m, h1, h2, h3);
-            solution_2_passes = passes(start, target, t2, ReachedLimits::Acc0Acc1, m.j_max, m);
+            solution_2_passes = passes(try_of(start, target, m, ReachedLimits::Acc0Acc1, t2));
         }
         let goes_on = !(solution_2_passes & return_after_found);
         if goes_on & admits_acc0_acc1_solution_1(m, h1, h2, h3) {
             t1 = times_acc0_acc1_solution_1(start, target, m, h1, h2, h3);
-            solution_1_passes = passes(start, target, t1, ReachedLimits::Acc0Acc1, m.j_max, m);
+            solution_1_passes = passes(try_of(start, target, m, ReachedLimits::Acc0Acc1, t1));
         }
     }
     Acc0Acc1Tries {
@@ -80,14 +81,14 @@ pub fn time_acc0_acc1(
     let t2 = s.t2;
     let t1 = s.t1;
     if s.solution_2_passes {
-        let d = c.add_profile(start, target, t2, ReachedLimits::Acc0Acc1, m.j_max, m);
+        let d = c.add_profile(try_of(start, target, m, ReachedLimits::Acc0Acc1, t2));
         if s.solution_1_passes {
-            return d.add_profile(start, target, t1, ReachedLimits::Acc0Acc1, m.j_max, m);
+            return d.add_profile(try_of(start, target, m, ReachedLimits::Acc0Acc1, t1));
         }
         return d;
     }
     if s.solution_1_passes {
-        return c.add_profile(start, target, t1, ReachedLimits::Acc0Acc1, m.j_max, m);
+        return c.add_profile(try_of(start, target, m, ReachedLimits::Acc0Acc1, t1));
     }
     c
 }

@@ -1,7 +1,9 @@
-// The families of step 1: position_third_step1.rs up to `get_profile`, try by try. What a try's times are stands in `phase_times` and the crates beside
-// it; here is which try comes next and when a family stops. Start, target, constants, limits and the list of candidates go in by value, and the list comes
-// back. The definitions that the contracts cite are in specs/.
+// The families of step 1: position_third_step1.rs up to `get_profile`, try by try. What a try's times are stands in
+// `phase_times` and the crates beside it; here is which try comes next and when a family stops. Start, target,
+// constants, limits and the list of candidates go in by value, and the list comes back. The definitions that the
+// contracts cite are in specs/.
 
+mod tries; // tries.rt: a try of a family
 mod all_vel; // all_vel.rt: time_all_vel
 mod acc0_acc1; // acc0_acc1.rt: time_acc0_acc1
 mod none_acc0_acc1; // none_acc0_acc1.rt: time_all_none_acc0_acc1

@@ -6,8 +6,11 @@ ghost use Prim.Native.Nat.{_+_, _≤_, _<_};
 ghost use lib.ListN.{drop};
 ghost use Rattle.roots.specs.List.{rootsOf};
 ghost use Rattle.position_third_step1.specs.CheckTree.{found};
-ghost use Rattle.position_third_step1.specs.TimeAllNoneAcc0Acc1.{rootsIf, noneRoots, acc0Roots, acc1Roots, reachedBy, timesBy, nthRoots, timeAllNoneAcc0Acc1};
+ghost use Rattle.position_third_step1.specs.TimeAllNoneAcc0Acc1.{rootsIf, noneRoots, acc0Roots, acc1Roots};
+ghost use Rattle.position_third_step1.specs.TimeAllNoneAcc0Acc1.{nthRoots, rootTry, timeAllNoneAcc0Acc1};
+use crate::tries::try_of;
 use candidates::Candidates;
+use candidates::Try;
 use candidates::passes;
 use phase_times::constants::Constants;
 use phase_times_quartic::correction_acc1::corrected_acc1;
@@ -132,46 +135,27 @@ fn nth_roots(n: usize, start: Start, target: Target, k: Constants, m: Limits) ->
     acc1_roots(start, target, k, m)
 }
 
-impl Polynom {
-    fn reached(self) -> ReachedLimits
-        ensures { λ r. ⌜ r ≡ reachedBy self ⌝ }
-    {
-        match self {
-            Polynom::NONE => ReachedLimits::None,
-            Polynom::ACC0 => ReachedLimits::Acc0,
-            Polynom::ACC1 => ReachedLimits::Acc1,
-        }
-    }
-}
-
-// The times of a root.
-fn root_times(
-    s: RootTries,
-    start: Start,
-    target: Target,
-    k: Constants,
-    m: Limits,
-    t: f64,
-) -> [f64; 7]
-    ensures { λ r. ⌜ r ≡ timesBy (s .polynom) (s .h0) (s .h2) (s .h3) start target k m t ⌝ }
+// The try of a root: corrected, and made to times.
+fn root_try(s: RootTries, start: Start, target: Target, k: Constants, m: Limits, t: f64) -> Try
+    ensures { λ r. ⌜ r ≡ rootTry start target k m s t ⌝ }
 {
     let polynom = s.polynom;
     match polynom {
-        Polynom::NONE => times_none(
-            start,
-            target,
-            m,
-            s.h2,
-            corrected_none(start, target, k, m, s.h2, t),
-        ),
-        Polynom::ACC0 => times_acc0(start, target, m, s.h3, corrected_acc0(k, m, s.h0, s.h2, t)),
-        Polynom::ACC1 => times_acc1(
-            start,
-            target,
-            m,
-            s.h3,
-            corrected_acc1(start, k, m, s.h0, s.h2, t),
-        ),
+        Polynom::NONE => {
+            let corrected = corrected_none(start, target, k, m, s.h2, t);
+            let times = times_none(start, target, m, s.h2, corrected);
+            try_of(start, target, m, ReachedLimits::None, times)
+        }
+        Polynom::ACC0 => {
+            let corrected = corrected_acc0(k, m, s.h0, s.h2, t);
+            let times = times_acc0(start, target, m, s.h3, corrected);
+            try_of(start, target, m, ReachedLimits::Acc0, times)
+        }
+        Polynom::ACC1 => {
+            let corrected = corrected_acc1(start, k, m, s.h0, s.h2, t);
+            let times = times_acc1(start, target, m, s.h3, corrected);
+            try_of(start, target, m, ReachedLimits::Acc1, times)
+        }
     }
 }
 
@@ -200,16 +184,14 @@ pub fn time_all_none_acc0_acc1(
         let s = nth_roots(n, start, target, k, m);
         let roots = s.roots;
         let range = s.range;
-        let polynom = s.polynom;
-        let reached = polynom.reached();
         let count = roots.count;
         let mut i: usize = 0;
         while i < count {
             let root = root_at(roots, i);
             if !range.skips(root) {
-                let t = root_times(s, start, target, k, m, root);
-                if passes(start, target, t, reached, m.j_max, m) {
-                    d = d.add_profile(start, target, t, reached, m.j_max, m);
+                let x = root_try(s, start, target, k, m, root);
+                if passes(x) {
+                    d = d.add_profile(x);
                     if return_after_found {
                         return d;
                     }

@@ -5,7 +5,9 @@ ghost use mathlib.Core.Bool.{false, true};
 ghost use mathlib.Core.List.{[], _∷_};
 ghost use Rattle.trees.specs.Tree.{run};
 ghost use Rattle.candidates.specs.Try.{passes};
-ghost use Rattle.position_third_step1.specs.TimeAllSingleStep.{refusal, acceptance, jerklessTry, acceleratedTries, firstAccepted, timeAllSingleStep};
+ghost use Rattle.position_third_step1.specs.TimeAllSingleStep.{refusal, acceptance, jerklessTry, acceleratedTries};
+ghost use Rattle.position_third_step1.specs.TimeAllSingleStep.{firstAccepted, timeAllSingleStep};
+use candidates::Try;
 use candidates::passes;
 use candidates::profile_of;
 use phase_times::constants::Constants;
@@ -36,28 +38,33 @@ fn refusal(q: Profile) -> Checked
     }
 }
 
-fn acceptance(q: Profile, start: Start, target: Target, m: Limits, t: [f64; 7]) -> Checked
-    ensures { λ r. ⌜ r ≡ acceptance (refusal q) (jerklessTry start target m t) ⌝ }
+fn acceptance(q: Profile, x: Try) -> Checked
+    ensures { λ r. ⌜ r ≡ acceptance (refusal q) x ⌝ }
 {
-    let profile = profile_of(
-        q.brake,
-        q.accel,
-        start,
-        target,
-        t,
-        ReachedLimits::None,
-        0.0,
-        m,
-    );
+    let profile = profile_of(q.brake, q.accel, x);
     Checked { ok: true, profile }
 }
 
-// One try.
-fn try_jerkless(q: Profile, start: Start, target: Target, m: Limits, t: [f64; 7]) -> Checked
-    ensures { λ r. ⌜ r ≡ run passes (firstAccepted q (jerklessTry start target m t ∷ [])) ⌝ }
+// Its jerk is 0.
+fn jerkless_try(start: Start, target: Target, m: Limits, t: [f64; 7]) -> Try
+    ensures { λ r. ⌜ r ≡ jerklessTry start target m t ⌝ }
 {
-    if passes(start, target, t, ReachedLimits::None, 0.0, m) {
-        return acceptance(q, start, target, m, t);
+    Try {
+        start,
+        target,
+        t,
+        reached: ReachedLimits::None,
+        jf: 0.0,
+        limits: m,
+    }
+}
+
+// One try.
+fn try_jerkless(q: Profile, x: Try) -> Checked
+    ensures { λ r. ⌜ r ≡ run passes (firstAccepted q (x ∷ [])) ⌝ }
+{
+    if passes(x) {
+        return acceptance(q, x);
     }
     refusal(q)
 }
@@ -68,14 +75,16 @@ fn try_accelerated(q: Profile, start: Start, target: Target, m: Limits, root: f6
 {
     let t1 = times_single_step_solution_1(start, root);
     if has_phase_3(t1) {
-        if passes(start, target, t1, ReachedLimits::None, 0.0, m) {
-            return acceptance(q, start, target, m, t1);
+        let first = jerkless_try(start, target, m, t1);
+        if passes(first) {
+            return acceptance(q, first);
         }
     }
     let t2 = times_single_step_solution_2(start, root);
     if has_phase_3(t2) {
-        if passes(start, target, t2, ReachedLimits::None, 0.0, m) {
-            return acceptance(q, start, target, m, t2);
+        let second = jerkless_try(start, target, m, t2);
+        if passes(second) {
+            return acceptance(q, second);
         }
     }
     refusal(q)
@@ -97,10 +106,11 @@ pub fn time_all_single_step(
         return try_accelerated(q, start, target, m, sqrt(single_step_radicand(start, k)));
     }
     if starts_moving(start) {
-        return try_jerkless(q, start, target, m, times_at_constant_speed(start, k));
+        let t = times_at_constant_speed(start, k);
+        return try_jerkless(q, jerkless_try(start, target, m, t));
     }
     if starts_at_target(k) {
-        return try_jerkless(q, start, target, m, zero_times());
+        return try_jerkless(q, jerkless_try(start, target, m, zero_times()));
     }
     refusal(q)
 }

@@ -1,4 +1,4 @@
--- What an accepted check tells of the profile that it gives back: each test that it passed, and how its rows are made. Assumes nothing.
+-- What an accepted check tells of the profile that it gives back. Assumes nothing.
 use Prim.Native.Nat.{ℕ, zero, suc, _+_, _≤_, _<_, zero-le}
 use mathlib.Core.Logic.{inl, inr}
 use native.Mathlib.Nat.{le-of-suc-le-suc, eq-or-lt-of-le}
@@ -6,66 +6,23 @@ use mathlib.Core.Path.{_≡_, refl, sym, subst}
 use mathlib.Core.Bool.{Bool, true, false, cond, not, _&&_}
 use mathlib.Core.List.{List}
 use native.Mathlib.Omega.{arith}
-use lib.Dec.{T, eqb}
+use lib.Dec.{T}
 use lib.Ieee.{Float}
 use lib.Ieee.Fits.{and-l, and-r}
 use Rattle.doubles.specs.Operators.{_-ᶠ_, _<ᶠ_, at}
 use Rattle.doubles.specs.Constants.{0ᶠ}
 use Rattle.doubles.specs.Functions.{absᶠ}
 use Rattle.profile.specs.Tolerances.{pPrecision, vPrecision, aPrecision, tMax}
-use Rattle.profile.specs.Names.{isAcc1, isAcc0Acc1, clearsRow3}
-use Rattle.profile.specs.Limits.{directionOf, boundsOf}
+use Rattle.profile.specs.Limits.{boundsOf}
 use Rattle.profile.specs.Boundary.{startOf, targetOf}
-use Rattle.profile_rows.specs.Rows.{sums, jerks, rowAfter, storedIf, outerRow, middleRow, rowsOf}
+use Rattle.profile_rows.specs.Rows.{jerks, storedIf, outerRow, middleRow, rowsOf}
+use Rattle.profile_check.specs.Accepted.{AcceptedMotion, Accepted, SameBoundary}
 use Rattle.profile_check.specs.Check.{each, timesPass, phasesPass, sumPasses, zeroPasses, zerosPass, endPasses, aWithin, vWithin, aRowsPass, vRowsPass, rowsPass, accepted, filled, checked}
 use Rattle.profile.specs.declared.Profile.{Profile}
 use Rattle.profile.specs.declared.Limits.{Limits}
-use Rattle.profile_rows.specs.declared.Row.{Row}
 use Rattle.profile_check.specs.declared.Checked.{Checked}
 use Rattle.profile.specs.declared.ReachedLimits.{ReachedLimits}
 use Rattle.profile.specs.declared.ControlSigns.{ControlSigns}
-
--- row i of a profile
-abbrev pub rowAt : Profile → ℕ → Row
-rowAt q i = record { a = at (q .a) i; v = at (q .v) i; p = at (q .p) i }
-
--- the row that the phases make after row i
-abbrev pub nextRow : Profile → ℕ → Row
-nextRow q i = rowAfter (rowAt q i) (at (q .t) i) (at (q .j) i)
-
--- what the check keeps as row i + 1's acceleration, where the phases make it a
-abbrev pub keptA : ReachedLimits → Bool → Limits → ℕ → Float → Float
-keptA reached set-limits m i a =
-    cond (eqb i 0 && (set-limits && isAcc0Acc1 reached)) (m .«a_max»)
-    (cond (eqb i 4 && (set-limits && isAcc0Acc1 reached)) (m .«a_min»)
-    (cond (eqb i 2 && (set-limits && isAcc1 reached)) (m .«a_min»)
-    (cond (eqb i 2 && clearsRow3 reached) 0ᶠ a)))
-
--- all but the position's test at the end
-pub record AcceptedMotion (r : Profile) (set-limits : Bool) (jf : Float) (m : Limits) : Type 0 where
-  -- the tests of the times
-  pub times : (i : ℕ) → i < 7 → T (not (at (r .t) i <ᶠ 0ᶠ))
-  pub phases : T (phasesPass (r .limits) (r .t))
-  pub sum : T (not (tMax <ᶠ at (sums (r .t)) 6))
-  -- what was filled in
-  pub t-sum : r .«t_sum» ≡ sums (r .t)
-  pub j-made : r .j ≡ jerks (r .«control_signs») (r .t) jf
-  pub p-made : (i : ℕ) → i < 7 → at (r .p) (suc i) ≡ nextRow r i .p
-  pub v-made : (i : ℕ) → i < 7 → at (r .v) (suc i) ≡ nextRow r i .v
-  pub a-made : (i : ℕ) → i < 7 → at (r .a) (suc i) ≡ keptA (r .limits) set-limits m i (nextRow r i .a)
-  pub direction : r .direction ≡ directionOf m
-  -- the tests of the rows
-  pub zeros : (i : ℕ) → 2 ≤ i → i < 7 → T (zeroPasses (at (r .a) i) (at (r .a) (suc i)) (at (r .v) i) (at (r .j) i) (boundsOf m))
-  pub v-end : T (absᶠ (at (r .v) 7 -ᶠ r .vf) <ᶠ vPrecision)
-  pub a-end : T (absᶠ (at (r .a) 7 -ᶠ r .af) <ᶠ aPrecision)
-  pub a1 : T (aWithin (boundsOf m) (at (r .a) 1))
-  pub a3 : T (aWithin (boundsOf m) (at (r .a) 3))
-  pub a5 : T (aWithin (boundsOf m) (at (r .a) 5))
-  pub v-within : (i : ℕ) → 3 ≤ i → i < 7 → T (vWithin (boundsOf m) (at (r .v) i))
-
-pub record Accepted (r : Profile) (set-limits : Bool) (jf : Float) (m : Limits) : Type 0 where
-  pub motion : AcceptedMotion r set-limits jf m
-  pub p-end : T (absᶠ (at (r .p) 7 -ᶠ r .pf) <ᶠ pPrecision)
 
 -- a fact of the seven phases, one by one
 pub each-phase : (P : ℕ → Type 0) → P 0 → P 1 → P 2 → P 3 → P 4 → P 5 → P 6 → (i : ℕ) → i < 7 → P i
@@ -81,7 +38,7 @@ each-phase P a b c d e f g (suc (suc (suc (suc (suc (suc (suc i))))))) l = absur
     none : (i : ℕ) → suc (suc (suc (suc (suc (suc (suc i)))))) < 7 → ⊥
     none i l = omega arith
 
--- six tests, one by one; for fewer, those in front are true
+-- six conditions, one by one; for fewer, those in front are true
 six : (a b c d e f : Bool) → T (a && b && c && d && e && f) → T a × T b × T c × T d × T e × T f
 six a b c d e f h =
     let h5 = and-l (a && b && c && d && e) f h in
@@ -102,19 +59,14 @@ each-of i (suc n) f h k l m =
     m′ : suc k ≤ suc (i + n)
     m′ = omega arith
 
--- r has the start, the target and the durations of q
-pub record SameBoundary (q r : Profile) : Type 0 where
-  pub start : startOf r ≡ startOf q
-  pub target : targetOf r ≡ targetOf q
-  pub brake : r .brake ≡ q .brake
-  pub accel : r .accel ≡ q .accel
-
-module _ (q : Profile) (t : List Float) (signs : ControlSigns) (reached : ReachedLimits) (set-limits : Bool) (jf : Float) (m : Limits) where
+module _ (q : Profile) (t : List Float) (signs : ControlSigns) (reached : ReachedLimits) (set-limits : Bool)
+    (jf : Float) (m : Limits) where
   pub filled-keeps : SameBoundary q (filled q t signs reached set-limits jf m)
   unfolding filled rowsOf
   filled-keeps = record { start = refl; target = refl; brake = refl; accel = refl }
 
-  pub accepts-tells : T (accepted (startOf q) (targetOf q) t signs reached set-limits jf m) → Accepted (filled q t signs reached set-limits jf m) set-limits jf m
+  pub accepts-tells : T (accepted (startOf q) (targetOf q) t signs reached set-limits jf m)
+      → Accepted (filled q t signs reached set-limits jf m) set-limits jf m
   unfolding accepted filled rowsOf outerRow middleRow storedIf timesPass sumPasses zerosPass endPasses rowsPass
   accepts-tells h =
       let r = rowsOf (startOf q) t (jerks signs t jf) reached set-limits m in
@@ -152,15 +104,18 @@ answer-keeps : (b : Bool) (f q : Profile) → SameBoundary q f → SameBoundary 
 answer-keeps true f q k = k
 answer-keeps false f q k = record { start = refl; target = refl; brake = refl; accel = refl }
 
-answer-tells : (b : Bool) (f q : Profile) (P : Profile → Type 0) → (T b → P f) → answer b f q .ok ≡ true → P (answer b f q .profile)
+answer-tells : (b : Bool) (f q : Profile) (P : Profile → Type 0) → (T b → P f) → answer b f q .ok ≡ true
+    → P (answer b f q .profile)
 answer-tells true f q P h e = h tt
 answer-tells false f q P h e = absurd (subst T (sym e) tt)
 
-module _ (q : Profile) (signs : ControlSigns) (reached : ReachedLimits) (set-limits : Bool) (jf : Float) (m : Limits) where
+module _ (q : Profile) (signs : ControlSigns) (reached : ReachedLimits) (set-limits : Bool) (jf : Float)
+    (m : Limits) where
   pub check-keeps : SameBoundary q (checked q signs reached set-limits jf m .profile)
   unfolding checked
   check-keeps = answer-keeps (accepted (startOf q) (targetOf q) (q .t) signs reached set-limits jf m) _ q (filled-keeps q (q .t) signs reached set-limits jf m)
 
-  pub check-tells : checked q signs reached set-limits jf m .ok ≡ true → Accepted (checked q signs reached set-limits jf m .profile) set-limits jf m
+  pub check-tells : checked q signs reached set-limits jf m .ok ≡ true
+      → Accepted (checked q signs reached set-limits jf m .profile) set-limits jf m
   unfolding checked
   check-tells e = answer-tells (accepted (startOf q) (targetOf q) (q .t) signs reached set-limits jf m) _ q (λ r. Accepted r set-limits jf m) (accepts-tells q (q .t) signs reached set-limits jf m) e

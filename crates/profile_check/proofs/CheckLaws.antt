@@ -1,4 +1,4 @@
--- What the tests of a check find makes its answer. Assumes nothing.
+-- What the conditions of a check say makes its answer. Assumes nothing.
 use mathlib.Core.Path.{_≡_}
 use mathlib.Core.Bool.{Bool, true, false, not, _&&_}
 use mathlib.Core.List.{List}
@@ -6,12 +6,9 @@ use borrow.Author.Tests.{not-true, not-false}
 use lib.Ieee.{Float}
 use Rattle.doubles.specs.Operators.{at}
 use Rattle.profile.specs.Tolerances.{tMax}
-use Rattle.profile.specs.Limits.{directionOf, boundsOf}
-use Rattle.profile.specs.Boundary.{startOf}
-use Rattle.profile_rows.specs.Rows.{sums, jerks, rowsOf}
-use Rattle.profile_check.specs.Check.{timesPass, phasesPass, sumPasses, zeroPasses, zerosPass, endPasses, rowsPass, accepted, filled}
-use Rattle.profile.specs.declared.Profile.{Profile}
-use Rattle.profile.specs.declared.Direction.{Direction}
+use Rattle.profile.specs.Limits.{boundsOf}
+use Rattle.profile_rows.specs.Rows.{jerks, rowsOf}
+use Rattle.profile_check.specs.Check.{timesPass, phasesPass, sumPasses, zeroPasses, zerosPass, endPasses, rowsPass, accepted}
 use Rattle.profile.specs.declared.Start.{Start}
 use Rattle.profile.specs.declared.Target.{Target}
 use Rattle.profile.specs.declared.Limits.{Limits}
@@ -20,7 +17,8 @@ use Rattle.profile.specs.declared.Bounds.{Bounds}
 use Rattle.profile.specs.declared.ReachedLimits.{ReachedLimits}
 use Rattle.profile.specs.declared.ControlSigns.{ControlSigns}
 
--- x1, x2 and x3 are the tests of the times, z2 to z6 those of the speed at zero acceleration in phases 2 to 6, x4 and x5 those of the rows
+-- x1, x2 and x3 are the conditions of the times, z2 to z6 those of the speed at zero acceleration in phases 2 to 6,
+-- x4 and x5 those of the rows
 module _ (start : Start) (target : Target) (t : List Float) (signs : ControlSigns) (reached : ReachedLimits) (set-limits : Bool) (jf : Float) (m : Limits)
     {x1 : Bool} (e1 : x1 ≡ timesPass t) where
   pub refused-times : not x1 ≡ true → false ≡ accepted start target t signs reached set-limits jf m
@@ -46,33 +44,21 @@ module _ (start : Start) (target : Target) (t : List Float) (signs : ControlSign
         → x5 ≡ rowsPass r b
         → (z2 && z3 && z4 && z5 && z6 && x4 && x5) ≡ accepted start target t signs reached set-limits jf m
     unfolding accepted zerosPass
-    by-rows h ej er eb f2 f3 f4 f5 f6 e4 e5 = rw (← e1, not-false x1 h1, ← e2, ← e3, not-false (x2 && x3) h, ← ej, ← er, ← eb, ← f2, ← f3, ← f4, ← f5, ← f6, ← e4, ← e5)
-
--- a profile of these parts is the filled one
-pub filled-made :
-    (q : Profile) (t : List Float) (signs : ControlSigns) (reached : ReachedLimits) (set-limits : Bool) (jf : Float) (m : Limits) {t-sum j : List Float} {start : Start} {r : Rows} {d : Direction}
-    → t-sum ≡ sums t
-    → j ≡ jerks signs t jf
-    → start ≡ startOf q
-    → r ≡ rowsOf start t j reached set-limits m
-    → d ≡ directionOf m
-    → _≡_ {A = Profile}
-    (record {
-      t = t;
-      «t_sum» = t-sum;
-      j = j;
-      a = r .a;
-      v = r .v;
-      p = r .p;
-      brake = q .brake;
-      accel = q .accel;
-      pf = q .pf;
-      vf = q .vf;
-      af = q .af;
-      limits = reached;
-      direction = d;
-      «control_signs» = signs;
-    })
-    (filled q t signs reached set-limits jf m)
-unfolding filled
-filled-made q t signs reached set-limits jf m es ej e0 er ed = rw (← es, ← ej, ← e0, ← er, ← ed)
+    by-rows h ej er eb f2 f3 f4 f5 f6 e4 e5 =
+        rw (
+          ← e1,
+          not-false x1 h1,
+          ← e2,
+          ← e3,
+          not-false (x2 && x3) h,
+          ← ej,
+          ← er,
+          ← eb,
+          ← f2,
+          ← f3,
+          ← f4,
+          ← f5,
+          ← f6,
+          ← e4,
+          ← e5,
+        )

@@ -1,4 +1,4 @@
--- The check of a profile: its tests, in document 01's order, and the profile that it gives back. Definitions only.
+-- The check of a profile: its conditions, in document 01's order, and the profile that it gives back. Definitions only.
 -- Every comparison stands with the Rust's sides: with a NaN it is false, so it may not be turned round.
 use Prim.Native.Nat.{ℕ, zero, suc, _+_}
 use mathlib.Core.Bool.{Bool, true, false, cond, not, _&&_, _||_}
@@ -42,8 +42,8 @@ phasesPass reached t =
 unfoldable pub sumPasses : Float → List Float → Bool
 sumPasses longest t = not (longest <ᶠ at (sums t) 6)
 
--- in a phase at the jerk j, from the acceleration a and the velocity v to the acceleration a′: where a′ × a < -EPS the speed at zero
--- acceleration is within limits. As in the Rust a NaN there passes
+-- in a phase at the jerk j, from the acceleration a and the velocity v to the acceleration a′: where a′ × a < -EPS the
+-- speed at zero acceleration is within limits. As in the Rust a NaN there passes
 unfoldable pub zeroPasses : (a a′ v j : Float) → Bounds → Bool
 zeroPasses a a′ v j b =
     let v-a-zero = v -ᶠ a *ᶠ a /ᶠ (2ᶠ *ᶠ j) in
@@ -67,7 +67,8 @@ aWithin b a = (b .«a_low_lim» ≤ᶠ a) && (a ≤ᶠ b .«a_upp_lim»)
 abbrev pub vWithin : Bounds → Float → Bool
 vWithin b v = (v ≤ᶠ b .«v_upp_lim») && (b .«v_low_lim» ≤ᶠ v)
 
--- the accelerations of rows 1, 3 and 5 and the velocities of rows 3 to 6 are within the bounds; row 7 isn't compared with them
+-- the accelerations of rows 1, 3 and 5 and the velocities of rows 3 to 6 are within the bounds; row 7 isn't compared
+-- with them
 abbrev pub aRowsPass : Rows → Bounds → Bool
 aRowsPass r b = aWithin b (at (r .a) 1) && aWithin b (at (r .a) 3) && aWithin b (at (r .a) 5)
 
@@ -77,7 +78,7 @@ vRowsPass r b = each 3 4 (λ i. vWithin b (at (r .v) i))
 unfoldable pub rowsPass : Rows → Bounds → Bool
 rowsPass r b = aRowsPass r b && vRowsPass r b
 
--- whether the times t, from the start, pass every test
+-- whether the times t, from the start, meet every condition
 unfoldable pub accepted : Start → Target → List Float → ControlSigns → ReachedLimits → Bool → Float → Limits → Bool
 accepted start target t signs reached set-limits jf m =
     let j = jerks signs t jf in

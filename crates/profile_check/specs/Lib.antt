@@ -1,2 +1,3 @@
 -- The definitions of `profile_check`.
 pub mod Check
+pub mod Accepted

@@ -1,4 +1,4 @@
-// The tests of the check. Every comparison stands with the Rust's sides: with a NaN it is false.
+// The conditions of the check. Every comparison stands with the Rust's sides: with a NaN it is false.
 
 ghost use mathlib.Core.Path.{_≡_};
 ghost use mathlib.Core.Bool.{_&&_};

@@ -1,4 +1,4 @@
-// The check. A try that it refuses writes no profile: `accepts` says whether, and `made` fills the profile in.
+// The check. A try that it refuses writes no profile: `accepts` says whether, and `filled` fills the profile in.
 
 ghost use mathlib.Core.Path.{_≡_};
 ghost use mathlib.Core.Bool.{false};
@@ -32,7 +32,7 @@ pub struct Checked {
     pub profile: Profile,
 }
 
-// Whether the times t, from the start, pass every test of the check.
+// Whether the times t, from the start, meet every condition of the check.
 pub fn accepts(
     start: Start,
     target: Target,

@@ -11,7 +11,8 @@ use Rattle.profile_rows.specs.declared.Row.{Row}
 use Rattle.profile_rows.specs.declared.Rows.{Rows}
 use Rattle.profile.specs.declared.ReachedLimits.{ReachedLimits}
 
--- rows of which each is made from the one before are the definition's: x1, x3 and x5 are rows 1, 3 and 5 before anything is stored in them
+-- rows of which each is made from the one before are the definition's: x1, x3 and x5 are rows 1, 3 and 5 before
+-- anything is stored in them
 pub rows-made :
     (start : Start) (t j : List Float) (reached : ReachedLimits) (set-limits : Bool) (m : Limits) {r0 x1 r1 r2 x3 r3 r4 x5 r5 r6 r7 : Row}
     → r0 ≡ record { a = start .a0; v = start .v0; p = start .p0 }

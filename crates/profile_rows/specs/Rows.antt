@@ -1,4 +1,5 @@
--- What a check fills in: sums, jerks and the eight rows. Phases and rows count from 0: row i + 1 comes after phase i. Definitions only.
+-- What a check fills in: sums, jerks and the eight rows. Phases and rows count from 0: row i + 1 comes after phase i.
+-- Definitions only.
 use mathlib.Core.Bool.{Bool, cond, _&&_}
 use mathlib.Core.List.{List, [], _∷_}
 use lib.Ieee.{Float}

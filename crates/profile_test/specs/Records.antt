@@ -1,5 +1,5 @@
--- What the bytes of a record mean: start, target, seven times, the jerk, v_max, v_min, a_max and a_min as doubles, then limits, control signs and `set_limits`, a byte
--- each. Definitions only.
+-- What the bytes of a record mean: start, target, seven times, the jerk, v_max, v_min, a_max and a_min as doubles, then
+-- limits, control signs and `set_limits`, a byte each. Definitions only.
 use Prim.Native.Nat.{ℕ}
 use mathlib.Core.Bool.{cond}
 use mathlib.Core.List.{List, [], _∷_}
@@ -8,6 +8,7 @@ use lib.ListN.{getD}
 use Rattle.doubles.specs.Constants.{0ᶠ}
 use Rattle.encoding.specs.Encoding.{doubleAt}
 use Rattle.profile.specs.Boundary.{emptyProfile, boundarySet}
+use Rattle.profile.specs.With.{withTimes}
 use Rattle.profile.specs.declared.Profile.{Profile}
 use Rattle.profile.specs.declared.Start.{Start}
 use Rattle.profile.specs.declared.Target.{Target}
@@ -45,28 +46,17 @@ targetOf b = record { pf = doubleAt b 24; vf = doubleAt b 32; af = doubleAt b 40
 -- an empty profile with the record's boundary and times
 unfoldable pub profileOf : List ℕ → Profile
 profileOf b =
-    let q = boundarySet emptyProfile (startOf b) (targetOf b) in
-    record {
-      t = doubleAt b 48 ∷ doubleAt b 56 ∷ doubleAt b 64 ∷ doubleAt b 72 ∷ doubleAt b 80 ∷ doubleAt b 88 ∷ doubleAt b 96 ∷ [];
-      «t_sum» = q .«t_sum»;
-      j = q .j;
-      a = q .a;
-      v = q .v;
-      p = q .p;
-      brake = q .brake;
-      accel = q .accel;
-      pf = q .pf;
-      vf = q .vf;
-      af = q .af;
-      limits = q .limits;
-      direction = q .direction;
-      «control_signs» = q .«control_signs»;
-    }
+    withTimes (boundarySet emptyProfile (startOf b) (targetOf b))
+    (doubleAt b 48 ∷ doubleAt b 56 ∷ doubleAt b 64 ∷ doubleAt b 72 ∷ doubleAt b 80 ∷ doubleAt b 88 ∷ doubleAt b 96 ∷ [])
 
 -- a check reads no j_max
 unfoldable pub boundsOf : List ℕ → Limits
-boundsOf b = record { «v_max» = doubleAt b 112; «v_min» = doubleAt b 120; «a_max» = doubleAt b 128; «a_min» = doubleAt b 136; «j_max» = 0ᶠ }
+boundsOf b =
+    record { «v_max» = doubleAt b 112; «v_min» = doubleAt b 120; «a_max» = doubleAt b 128; «a_min» = doubleAt b 136; «j_max» = 0ᶠ }
 
 -- what `check` answers
 unfoldable pub checkedOf : List ℕ → Checked
-checkedOf b = checked (profileOf b) (controlSignsOf (getD b 145 0)) (limitsOf (getD b 144 0)) (eqb (getD b 146 0) 1) (doubleAt b 104) (boundsOf b)
+checkedOf b =
+    let signs = controlSignsOf (getD b 145 0) in
+    let reached = limitsOf (getD b 144 0) in
+    checked (profileOf b) signs reached (eqb (getD b 146 0) 1) (doubleAt b 104) (boundsOf b)

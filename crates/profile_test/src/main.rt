@@ -1,21 +1,26 @@
-// Calls of `check` in, its answers out, as the oracle's program `checks` has them. A record is 18 big-endian doubles (start, target,
-// seven times, the jerk, v_max, v_min, a_max, a_min), then limits, control signs and `set_limits`, a byte each. A line is `no`, or
-// `yes` and the profile: direction, limits, control signs, then its 50 doubles as hexadecimal digits of their bits.
+// Calls of `check` in, its answers out, as the oracle's program `checks` has them. A record is 18 big-endian doubles
+// (start, target, seven times, the jerk, v_max, v_min, a_max, a_min), then limits, control signs and `set_limits`, a
+// byte each. A line is `no`, or `yes` and the profile: direction, limits, control signs, then its doubles as
+// hexadecimal digits of their bits.
 ghost use Prim.Native.Nat.{_+_, _≤_};
 ghost use lib.ListN.{length};
 ghost use Rattle.io.specs.Counts.{Counts};
 ghost use Rattle.profile_lines.specs.Text.{Puts};
-ghost use Rattle.profile_test.specs.Lines.{answerOf, lineOf};
+ghost use Rattle.profile_test.specs.Lines.{answerOf, lineOf, lineLength};
 use profile_check::Checked;
+use profile_lines::PROFILE_WIDTH;
 use profile_lines::put;
 use profile_lines::put_profile_fields;
 use records::checked_of;
 
 mod records; // records.rt: what the bytes of a record mean
 
+// The longest line: yes, the profile and a line feed.
+const LINE_LENGTH: usize = 3 + PROFILE_WIDTH + 1;
+
 fn put_answer(out: &mut [u8], at: usize, x: Checked) -> usize
-    requires { ⌜ at + 876 ≤ length (now out) ⌝ }
-    ensures { λ r. ⌜ Puts (now (out .entry)) (now (out .exit)) at r (answerOf x) 876 ⌝ }
+    requires { ⌜ at + lineLength ≤ length (now out) ⌝ }
+    ensures { λ r. ⌜ Puts (now (out .entry)) (now (out .exit)) at r (answerOf x) lineLength ⌝ }
 {
     if x.ok {
         let profile = x.profile;
@@ -27,8 +32,8 @@ fn put_answer(out: &mut [u8], at: usize, x: Checked) -> usize
 }
 
 // The line of a record, at the start of out, and how long it is.
-fn line(bytes: &[u8; 147], out: &mut [u8; 876]) -> usize
-    ensures { λ r. ⌜ Puts (now (out .entry)) (now (out .exit)) 0 r (lineOf (now (bytes .entry))) 876 ⌝ }
+fn line(bytes: &[u8; 147], out: &mut [u8; LINE_LENGTH]) -> usize
+    ensures { λ r. ⌜ Puts (now (out .entry)) (now (out .exit)) 0 r (lineOf (now (bytes .entry))) lineLength ⌝ }
     ensures { λ r. ⌜ Counts r (now (out .exit)) ⌝ }
 {
     put_answer(out, 0, checked_of(bytes))
@@ -40,7 +45,7 @@ fn answer() -> bool {
     if io::read_full(0, &mut bytes) < 147 {
         return false;
     }
-    let mut text = [0u8; 876];
+    let mut text = [0u8; LINE_LENGTH];
     let length = line(&bytes, &mut text);
     io::write_all(1, &text[..length])
 }

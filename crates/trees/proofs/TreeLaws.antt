@@ -11,13 +11,15 @@ use Rattle.trees.specs.InTurn.{EachNo}
 
 module _ {Q R A : Type 0} (answer : Q → R) where
   -- the end of t and then f is the end of f at t's end
-  pub run-bind : {B : Type 0} (t : Tree Q R A) (f : A → Tree Q R B) → run answer (bind t f) ≡ run answer (f (run answer t))
+  pub run-bind : {B : Type 0} (t : Tree Q R A) (f : A → Tree Q R B)
+      → run answer (bind t f) ≡ run answer (f (run answer t))
   unfolding run bind
   run-bind (done a) f = refl
   run-bind (ask q next) f = run-bind (next (answer q)) f
 
   -- its questions are t's, and then those of f at t's end
-  pub questions-bind : {B : Type 0} (t : Tree Q R A) (f : A → Tree Q R B) → questions answer (bind t f) ≡ questions answer t ++ questions answer (f (run answer t))
+  pub questions-bind : {B : Type 0} (t : Tree Q R A) (f : A → Tree Q R B)
+      → questions answer (bind t f) ≡ questions answer t ++ questions answer (f (run answer t))
   unfolding run bind questions
   questions-bind (done a) f = refl
   questions-bind (ask q next) f = ap (λ (qs : List Q). q ∷ qs) (questions-bind (next (answer q)) f)
@@ -77,7 +79,8 @@ module _ {Q R A : Type 0} where
   at-most-either false h k = k
 
 module _ {Q R A B : Type 0} where
-  pub at-most-bind : {n : ℕ} {t : Tree Q R A} (m : ℕ) (f : A → Tree Q R B) → AtMost n t → ((a : A) → AtMost m (f a)) → AtMost (n + m) (bind t f)
+  pub at-most-bind : {n : ℕ} {t : Tree Q R A} (m : ℕ) (f : A → Tree Q R B) → AtMost n t → ((a : A) → AtMost m (f a))
+      → AtMost (n + m) (bind t f)
   unfolding bind
   at-most-bind m f (ended {n} {a}) h = rw (add-comm n m) (at-most-more n (h a))
   at-most-bind m f (asking k) h = rw suc-add (asking (λ r. at-most-bind m f (k r) h))
@@ -85,7 +88,8 @@ module _ {Q R A B : Type 0} where
 -- every answer is no
 module _ {Q A : Type 0} (answer : Q → Bool) where
   -- of t and then f: of t, and of f at t's end
-  pub all-no-bind : {B : Type 0} (t : Tree Q Bool A) (f : A → Tree Q Bool B) → AllNo answer (bind t f) ↔ (AllNo answer t × AllNo answer (f (run answer t)))
+  pub all-no-bind : {B : Type 0} (t : Tree Q Bool A) (f : A → Tree Q Bool B)
+      → AllNo answer (bind t f) ↔ (AllNo answer t × AllNo answer (f (run answer t)))
   unfolding run bind
   all-no-bind (done a) f = (λ h. (tt, h), λ h. h .1)
   all-no-bind (ask q next) f =
@@ -97,11 +101,14 @@ module _ {Q A : Type 0} (answer : Q → Bool) where
   unfolding questions
   all-no-questions (done a) = (λ h. h, λ h. h)
   all-no-questions (ask q next) =
-      let e = all-no-questions (next false) in
-      (λ h. (h .0, e .0 (subst (λ (r : Bool). AllNo answer (next r)) (h .0) (h .1))), λ h. (h .0, subst (λ (r : Bool). AllNo answer (next r)) (sym (h .0)) (e .1 (h .1))))
+      let e = all-no-questions (next false) in (
+        λ h. (h .0, e .0 (subst (λ (r : Bool). AllNo answer (next r)) (h .0) (h .1))),
+        λ h. (h .0, subst (λ (r : Bool). AllNo answer (next r)) (sym (h .0)) (e .1 (h .1))),
+      )
 
 -- t stops at its first yes, and where it did f asks nothing more
-module _ {Q A B : Type 0} (P : A → Type 0) (R : B → Type 0) (f : A → Tree Q Bool B) (after-yes : (a : A) → P a → Over R (f a)) where
+module _ {Q A B : Type 0} (P : A → Type 0) (R : B → Type 0) (f : A → Tree Q Bool B)
+    (after-yes : (a : A) → P a → Over R (f a)) where
   over-bind : (t : Tree Q Bool A) → Over P t → Over R (bind t f)
   unfolding bind
   over-bind (done a) p = after-yes a p

@@ -1,5 +1,6 @@
 -- A computation that asks questions of Q, is answered in R, and ends in an A. Definitions only.
--- A planner's questions are its checks. Written so, its result, its state after n checks and a bound on their number are read off one definition.
+-- A planner's questions are its checks. Written so, its result, its state after n checks and a bound on their number
+-- are read off one definition.
 use Prim.Native.Nat.{ℕ, zero, suc}
 use mathlib.Core.Path.{_≡_}
 use mathlib.Core.Bool.{Bool, true, false}

@@ -1,11 +1,21 @@
 -- `profile_check::filled` meets its contract. Assumes nothing.
-use Rattle.profile_check.proofs.CheckLaws.{filled-made}
+use Rattle.profile_check.specs.Check.{filled}
 use borrow.Author.Needs.{needs}
 use Rattle.profile_check.proofs.filled.Statement.{statement}
 use Rattle.profile_check.proofs.filled.Tie as tie
 
 returns : tie.Need-returns
-returns c = filled-made _ _ _ _ _ _ _ (c .before .before .before .before .before .before .before .sums-of .ensures) (c .before .before .before .before .before .before .jerks-of .ensures) (c .before .before .before .before .before .start .ensures) (c .before .before .before .before .rows-of .ensures) (c .direction .ensures)
+unfolding filled
+returns c =
+    let after-rows = c .before .before .before .before in
+    let after-jerks = after-rows .before .before in
+    rw (
+      ← after-jerks .before .sums-of .ensures,
+      ← after-jerks .jerks-of .ensures,
+      ← after-rows .before .start .ensures,
+      ← after-rows .rows-of .ensures,
+      ← c .direction .ensures,
+    )
 
 pub filled-spec : {M : Type 1} → statement M
 filled-spec =

@@ -1,4 +1,4 @@
--- `profile_rows::jerk_if` meets its contract. By the test. Assumes nothing.
+-- `profile_rows::jerk_if` meets its contract. By cases. Assumes nothing.
 use Rattle.profile_rows.specs.Rows.{jerkIf}
 use Rattle.profile_rows.proofs.jerk_if.Statement.{statement}
 use Rattle.profile_rows.proofs.jerk_if.Tie as tie

@@ -6,7 +6,15 @@ use Rattle.profile_rows.proofs.middle_row.Tie as tie
 
 returns : tie.Need-returns
 unfolding middleRow
-returns c = rw (c .stored-if2 .ensures, c .before .is-acc1 .ensures, c .before .before .stored-if .ensures, c .before .before .before .before .ends-in-vel .ensures, c .before .before .before .is-acc0-acc1 .ensures)
+returns c =
+    let after-stored = c .before .before in
+    rw (
+      c .stored-if2 .ensures,
+      c .before .is-acc1 .ensures,
+      after-stored .stored-if .ensures,
+      after-stored .before .before .ends-in-vel .ensures,
+      after-stored .before .is-acc0-acc1 .ensures,
+    )
 
 pub middle-row-spec : {M : Type 1} → statement M
 middle-row-spec =

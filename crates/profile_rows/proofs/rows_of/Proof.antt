@@ -7,15 +7,18 @@ use Rattle.profile_rows.proofs.rows_of.Tie as tie
 
 returns : tie.Need-returns
 returns c =
+    let after-row-5 = c .before .before in
+    let after-row-3 = after-row-5 .before .before .before in
+    let after-row-1 = after-row-3 .before .before .before in
     rows-made _ _ _ _ _ _ refl
-    (c .before .before .before .before .before .before .before .before .before .row-after .ensures)
-    (c .before .before .before .before .before .before .before .before .outer-row .ensures)
-    (c .before .before .before .before .before .before .before .row-after2 .ensures)
-    (c .before .before .before .before .before .before .row-after3 .ensures)
-    (c .before .before .before .before .before .middle-row .ensures)
-    (c .before .before .before .before .row-after4 .ensures)
-    (c .before .before .before .row-after5 .ensures)
-    (c .before .before .outer-row2 .ensures)
+    (after-row-1 .before .row-after .ensures)
+    (after-row-1 .outer-row .ensures)
+    (after-row-3 .before .before .row-after2 .ensures)
+    (after-row-3 .before .row-after3 .ensures)
+    (after-row-3 .middle-row .ensures)
+    (after-row-5 .before .before .row-after4 .ensures)
+    (after-row-5 .before .row-after5 .ensures)
+    (after-row-5 .outer-row2 .ensures)
     (c .before .row-after6 .ensures)
     (c .row-after7 .ensures)
 

@@ -1,4 +1,4 @@
--- `profile_rows::stored_if` meets its contract. By the test. Assumes nothing.
+-- `profile_rows::stored_if` meets its contract. By cases. Assumes nothing.
 use Rattle.profile_rows.specs.Rows.{storedIf}
 use Rattle.profile_rows.proofs.stored_if.Statement.{statement}
 use Rattle.profile_rows.proofs.stored_if.Tie as tie

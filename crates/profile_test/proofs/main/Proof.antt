@@ -1,4 +1,4 @@
--- `profile_test::main` is safe and ends. The measure is the number of turns that are left, and nothing has to hold from turn to turn. Assumes nothing.
+-- `profile_test::main` is safe and ends: the measure is the number of turns that are left. Assumes nothing.
 use native.Mathlib.Omega.{arith}
 use Rattle.profile_test.proofs.main.Statement.{statement}
 use Rattle.profile_test.proofs.main.Tie as tie

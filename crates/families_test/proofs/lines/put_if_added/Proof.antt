@@ -1,6 +1,6 @@
 -- `families_test::lines::put_if_added` meets its contract. Assumes nothing.
 use native.Mathlib.Omega.{arith}
-use Rattle.candidates.proofs.SlotLaws.{six}
+use Rattle.candidates.proofs.SlotLaws.{six-slots}
 use Rattle.families_test.proofs.ListLaws.{slot-put}
 use Rattle.profile_lines.proofs.PutLaws.{nothing, within}
 use Rattle.families_test.specs.Lines.{ifAdded}
@@ -11,10 +11,13 @@ use Rattle.families_test.proofs.lines.put_if_added.Tie as tie
 returns : tie.Need-returns
 unfolding ifAdded
 returns c =
-    let s = c .before .before .before .before .before .before .before in
-    rw
-    (c .before .before .before .before .before .if1 .taken) (slot-put (s .args .t3) _ (s .args .at) (six (s .args .t3) (s .good .1 .1 .0 .1 .1 .0 .1 .0 .1)) (s .pre .0)
-    (c .before .before .put-profile-fields .ensures))
+    let after-profile = c .before .before in
+    let added = after-profile .before .before .before in
+    let entry = added .before .before in
+    rw (added .if1 .taken)
+    (slot-put (entry .args .t3) _ (entry .args .at)
+    (six-slots (entry .args .t3) _ (entry .good .1 .1 .0)) (entry .pre .0)
+    (after-profile .put-profile-fields .ensures))
 
 returns-2 : tie.Need-returns-2
 unfolding ifAdded

@@ -9,16 +9,21 @@ use Rattle.families_test.proofs.lines.put_single.Tie as tie
 returns : tie.Need-returns
 unfolding singleLine
 returns c =
-    rw
-    (c .before .before .before .before .before .before .before .before .before .before .before .before .before .before .before .if1 .taken)
+    let after-newline = c .before .before in
+    let newline-lent = after-newline .before in
+    let after-profile = newline-lent .before .before .before .before in
+    let after-word = after-profile .before .before .before .before in
+    rw (after-word .before .before .before .before .if1 .taken)
     (then (then
-    (c .before .before .before .before .before .before .before .before .before .before .before .put .ensures)
-    (c .before .before .before .before .before .before .before .put-profile-fields .ensures))
-    (c .before .before .put2 .ensures))
+    (after-word .put .ensures)
+    (after-profile .put-profile-fields .ensures))
+    (after-newline .put2 .ensures))
 
 returns-2 : tie.Need-returns-2
 unfolding singleLine
-returns-2 c = rw (c .before .before .before .before .before .if1 .left) (within (omega arith) (c .before .before .put3 .ensures))
+returns-2 c =
+    let after-word = c .before .before in
+    rw (after-word .before .before .before .if1 .left) (within (omega arith) (after-word .put3 .ensures))
 
 pub put-single-spec : {M : Type 1} → statement M
 put-single-spec =

@@ -9,89 +9,110 @@ use Rattle.families_test.proofs.records.after_family.Tie as tie
 returns : tie.Need-returns
 unfolding afterFamily
 returns c =
+    let family-read = c .before .before .before .before in
+    let after-directed = family-read .before .before in
+    let after-limits = after-directed .before .before in
     rw (
-      sym (c .before .before .before .before .byte-at .ensures .0) ∙ c .before .match .keys1,
+      sym (family-read .byte-at .ensures .0) ∙ c .before .match .keys1,
       c .time-all-vel .ensures,
-      c .before .before .before .before .before .before .before .new .ensures,
-      c .before .before .before .before .before .before .directed .ensures,
-      c .before .before .before .before .before .before .before .before .before .before .start-of .ensures,
-      c .before .before .before .before .before .before .before .before .before .target-of .ensures,
-      c .before .before .before .before .before .before .before .before .limits-of .ensures,
+      after-directed .before .new .ensures,
+      after-directed .directed .ensures,
+      after-limits .before .before .start-of .ensures,
+      after-limits .before .target-of .ensures,
+      after-limits .limits-of .ensures,
     )
 
 returns-2 : tie.Need-returns-2
 unfolding afterFamily
 returns-2 c =
+    let family-read = c .before .before .before .before in
+    let after-directed = family-read .before .before in
+    let after-limits = after-directed .before .before in
     rw (
-      sym (c .before .before .before .before .byte-at .ensures .0) ∙ c .before .match .keys2,
+      sym (family-read .byte-at .ensures .0) ∙ c .before .match .keys2,
       c .time-acc0-acc1 .ensures,
       c .before .before .byte-at2 .ensures .0,
-      c .before .before .before .before .before .before .before .new .ensures,
-      c .before .before .before .before .before .before .directed .ensures,
-      c .before .before .before .before .before .before .before .before .before .before .start-of .ensures,
-      c .before .before .before .before .before .before .before .before .before .target-of .ensures,
-      c .before .before .before .before .before .before .before .before .limits-of .ensures,
+      after-directed .before .new .ensures,
+      after-directed .directed .ensures,
+      after-limits .before .before .start-of .ensures,
+      after-limits .before .target-of .ensures,
+      after-limits .limits-of .ensures,
     )
 
 returns-3 : tie.Need-returns-3
 unfolding afterFamily
 returns-3 c =
+    let family-read = c .before .before .before .before in
+    let after-directed = family-read .before .before in
+    let after-limits = after-directed .before .before in
     rw (
-      sym (c .before .before .before .before .byte-at .ensures .0) ∙ c .before .match .keys3,
+      sym (family-read .byte-at .ensures .0) ∙ c .before .match .keys3,
       c .time-all-none-acc0-acc1 .ensures,
       c .before .before .byte-at2 .ensures .0,
-      c .before .before .before .before .before .before .before .new .ensures,
-      c .before .before .before .before .before .before .directed .ensures,
-      c .before .before .before .before .before .before .before .before .before .before .start-of .ensures,
-      c .before .before .before .before .before .before .before .before .before .target-of .ensures,
-      c .before .before .before .before .before .before .before .before .limits-of .ensures,
+      after-directed .before .new .ensures,
+      after-directed .directed .ensures,
+      after-limits .before .before .start-of .ensures,
+      after-limits .before .target-of .ensures,
+      after-limits .limits-of .ensures,
     )
 
 returns-4 : tie.Need-returns-4
 unfolding afterFamily
 returns-4 c =
+    let family-read = c .before .before .before .before in
+    let after-directed = family-read .before .before in
+    let after-limits = after-directed .before .before in
     rw (
-      sym (c .before .before .before .before .byte-at .ensures .0) ∙ c .before .match .keys4,
+      sym (family-read .byte-at .ensures .0) ∙ c .before .match .keys4,
       c .time-acc1-vel-two-step .ensures,
-      c .before .before .before .before .before .before .before .new .ensures,
-      c .before .before .before .before .before .before .directed .ensures,
-      c .before .before .before .before .before .before .before .before .before .before .start-of .ensures,
-      c .before .before .before .before .before .before .before .before .before .target-of .ensures,
-      c .before .before .before .before .before .before .before .before .limits-of .ensures,
+      after-directed .before .new .ensures,
+      after-directed .directed .ensures,
+      after-limits .before .before .start-of .ensures,
+      after-limits .before .target-of .ensures,
+      after-limits .limits-of .ensures,
     )
 
 returns-5 : tie.Need-returns-5
 unfolding afterFamily
 returns-5 c =
+    let family-read = c .before .before .before .before in
+    let after-directed = family-read .before .before in
+    let after-limits = after-directed .before .before in
     rw (
-      sym (c .before .before .before .before .byte-at .ensures .0) ∙ c .before .match .keys5,
+      sym (family-read .byte-at .ensures .0) ∙ c .before .match .keys5,
       c .time-acc0-two-step .ensures,
-      c .before .before .before .before .before .before .before .new .ensures,
-      c .before .before .before .before .before .before .directed .ensures,
-      c .before .before .before .before .before .before .before .before .before .before .start-of .ensures,
-      c .before .before .before .before .before .before .before .before .before .target-of .ensures,
-      c .before .before .before .before .before .before .before .before .limits-of .ensures,
+      after-directed .before .new .ensures,
+      after-directed .directed .ensures,
+      after-limits .before .before .start-of .ensures,
+      after-limits .before .target-of .ensures,
+      after-limits .limits-of .ensures,
     )
 
 returns-6 : tie.Need-returns-6
 unfolding afterFamily
 returns-6 c =
+    let family-read = c .before .before .before .before in
+    let after-directed = family-read .before .before in
+    let after-limits = after-directed .before .before in
     rw (
-      sym (c .before .before .before .before .byte-at .ensures .0) ∙ c .before .match .keys6,
+      sym (family-read .byte-at .ensures .0) ∙ c .before .match .keys6,
       c .time-vel-two-step .ensures,
-      c .before .before .before .before .before .before .before .new .ensures,
-      c .before .before .before .before .before .before .directed .ensures,
-      c .before .before .before .before .before .before .before .before .before .before .start-of .ensures,
-      c .before .before .before .before .before .before .before .before .before .target-of .ensures,
-      c .before .before .before .before .before .before .before .before .limits-of .ensures,
+      after-directed .before .new .ensures,
+      after-directed .directed .ensures,
+      after-limits .before .before .start-of .ensures,
+      after-limits .before .target-of .ensures,
+      after-limits .limits-of .ensures,
     )
 
 returns-7 : tie.Need-returns-7
 unfolding afterFamily
 returns-7 c =
+    let family-read = c .before .before .before .before in
+    let after-directed = family-read .before .before in
+    let after-limits = after-directed .before .before in
     let r = c .before .match .rest in
     rw (
-      ← c .before .before .before .before .byte-at .ensures .0,
+      ← family-read .byte-at .ensures .0,
       ne-eqb _ _ (r .0 .0 .0 .0 .0 .1),
       ne-eqb _ _ (r .0 .0 .0 .0 .1),
       ne-eqb _ _ (r .0 .0 .0 .1),
@@ -99,11 +120,11 @@ returns-7 c =
       ne-eqb _ _ (r .0 .1),
       ne-eqb _ _ (r .1),
       c .time-none-two-step .ensures,
-      c .before .before .before .before .before .before .before .new .ensures,
-      c .before .before .before .before .before .before .directed .ensures,
-      c .before .before .before .before .before .before .before .before .before .before .start-of .ensures,
-      c .before .before .before .before .before .before .before .before .before .target-of .ensures,
-      c .before .before .before .before .before .before .before .before .limits-of .ensures,
+      after-directed .before .new .ensures,
+      after-directed .directed .ensures,
+      after-limits .before .before .start-of .ensures,
+      after-limits .before .target-of .ensures,
+      after-limits .limits-of .ensures,
     )
 
 pub after-family-spec : {M : Type 1} → statement M

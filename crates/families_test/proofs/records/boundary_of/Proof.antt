@@ -8,11 +8,12 @@ use Rattle.families_test.proofs.records.boundary_of.Tie as tie
 returns : tie.Need-returns
 unfolding boundaryOf withBoundary
 returns c =
+    let after-boundary = c .before .before .before .before in
     rw (
-      c .before .before .before .before .with-boundary .ensures,
-      c .before .before .before .before .before .before .before .empty .ensures,
-      c .before .before .before .before .before .before .start-of .ensures,
-      c .before .before .before .before .before .target-of .ensures,
+      after-boundary .with-boundary .ensures,
+      after-boundary .before .before .before .empty .ensures,
+      after-boundary .before .before .start-of .ensures,
+      after-boundary .before .target-of .ensures,
       c .before .before .double-at .ensures,
       c .double-at2 .ensures,
     )

@@ -7,10 +7,11 @@ use Rattle.families_test.proofs.records.limits_of.Tie as tie
 returns : tie.Need-returns
 unfolding limitsOf
 returns c =
+    let after-a-max = c .before .before .before .before in
     rw (
-      c .before .before .before .before .before .before .before .before .double-at .ensures,
-      c .before .before .before .before .before .before .double-at2 .ensures,
-      c .before .before .before .before .double-at3 .ensures,
+      after-a-max .before .before .before .before .double-at .ensures,
+      after-a-max .before .before .double-at2 .ensures,
+      after-a-max .double-at3 .ensures,
       c .before .before .double-at4 .ensures,
       c .double-at5 .ensures,
     )

@@ -7,14 +7,15 @@ use Rattle.families_test.proofs.records.single_step.Tie as tie
 returns : tie.Need-returns
 unfolding singleStep
 returns c =
+    let after-limits = c .before .before .before .before in
     rw (
       c .time-all-single-step .ensures,
       c .before .before .boundary-of .ensures,
       c .before .directed .ensures,
       c .before .before .before .new .ensures,
-      c .before .before .before .before .before .before .start-of .ensures,
-      c .before .before .before .before .before .target-of .ensures,
-      c .before .before .before .before .limits-of .ensures,
+      after-limits .before .before .start-of .ensures,
+      after-limits .before .target-of .ensures,
+      after-limits .limits-of .ensures,
     )
 
 pub single-step-spec : {M : Type 1} → statement M

@@ -6,7 +6,9 @@ use Rattle.phase_times_quartic.proofs.correction_acc1.corrected_acc1.Ti
 
 returns : tie.Need-returns
 unfolding correctedAcc1
-returns c = rw (c .before .before .if1 .taken, ← c .before .first-correction-acc1 .ensures) (c .second-correction-acc1 .ensures)
+returns c =
+    rw (c .before .before .if1 .taken, ← c .before .first-correction-acc1 .ensures)
+    (c .second-correction-acc1 .ensures)
 
 returns-2 : tie.Need-returns-2
 unfolding correctedAcc1

@@ -12,13 +12,18 @@ use Rattle.phase_times_quartic.proofs.correction_acc1.first_correction_
 use Rattle.phase_times_quartic.proofs.correction_acc1.first_correction_acc1.Tie as tie
 
 -- the definition from what each step gives
-by-steps : (start : Start) (k : Constants) (m : Limits) (h0 h2 t orig deriv least : Float) → orig ≡ origAcc1 start k m h0 t → deriv ≡ derivAcc1 start m h2 t → least ≡ minᶠ (orig /ᶠ deriv) t
+by-steps : (start : Start) (k : Constants) (m : Limits) (h0 h2 t orig deriv least : Float)
+    → orig ≡ origAcc1 start k m h0 t → deriv ≡ derivAcc1 start m h2 t → least ≡ minᶠ (orig /ᶠ deriv) t
     → t -ᶠ least ≡ firstCorrectionAcc1 start k m h0 h2 t
 unfolding firstCorrectionAcc1
 by-steps start k m h0 h2 t orig deriv least o d l = rw (l, o, d)
 
 returns : tie.Need-returns
-returns c = by-steps _ _ _ _ _ _ _ _ _ (c .before .before .orig-acc1 .ensures) (c .before .deriv-acc1 .ensures) (c .min .ensures)
+returns c =
+    by-steps _ _ _ _ _ _ _ _ _
+    (c .before .before .orig-acc1 .ensures)
+    (c .before .deriv-acc1 .ensures)
+    (c .min .ensures)
 
 pub first-correction-acc1-spec : {M : Type 1} → statement M
 first-correction-acc1-spec =

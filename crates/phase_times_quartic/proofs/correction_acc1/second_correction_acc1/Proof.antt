@@ -6,7 +6,15 @@ use Rattle.phase_times_quartic.proofs.correction_acc1.second_correction
 
 returns : tie.Need-returns
 unfolding secondCorrectionAcc1
-returns c = rw (← c .before .before .before .before .orig-acc1 .ensures, ← c .before .before .before .abs .ensures, ← c .before .deriv-acc1 .ensures, c .before .before .if1 .taken) (c .third-correction-acc1 .ensures)
+returns c =
+    let still-off = c .before .before in
+    rw (
+      ← still-off .before .before .orig-acc1 .ensures,
+      ← still-off .before .abs .ensures,
+      ← c .before .deriv-acc1 .ensures,
+      still-off .if1 .taken,
+    )
+    (c .third-correction-acc1 .ensures)
 
 returns-2 : tie.Need-returns-2
 unfolding secondCorrectionAcc1

@@ -6,7 +6,14 @@ use Rattle.phase_times_quartic.proofs.correction_acc1.third_correction_
 
 returns : tie.Need-returns
 unfolding thirdCorrectionAcc1
-returns c = rw (← c .before .before .before .orig-acc1 .ensures, ← c .before .before .abs .ensures, ← c .deriv-acc1 .ensures, c .before .if1 .taken)
+returns c =
+    let still-off = c .before in
+    rw (
+      ← still-off .before .before .orig-acc1 .ensures,
+      ← still-off .before .abs .ensures,
+      ← c .deriv-acc1 .ensures,
+      still-off .if1 .taken,
+    )
 
 returns-2 : tie.Need-returns-2
 unfolding thirdCorrectionAcc1

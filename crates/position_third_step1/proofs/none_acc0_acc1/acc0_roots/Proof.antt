@@ -6,7 +6,20 @@ use Rattle.position_third_step1.proofs.none_acc0_acc1.acc0_roots.Tie as
 
 returns : tie.Need-returns
 unfolding acc0Roots
-returns c = (rw (← c .before .before .before .before .before .before .before .h0-acc0 .ensures, ← c .before .before .before .before .before .before .h2-acc0 .ensures, ← c .before .before .before .before .before .polynom-acc0 .ensures, ← c .before .before .before .before .range-acc0 .ensures, ← c .before .before .before .shifted .ensures, ← c .before .before .has-solution .ensures, ← c .before .roots-if .ensures .0, ← c .h3-acc0 .ensures), c .before .roots-if .ensures .1)
+returns c =
+    let after-range = c .before .before .before .before in (
+      rw (
+        ← after-range .before .before .before .h0-acc0 .ensures,
+        ← after-range .before .before .h2-acc0 .ensures,
+        ← after-range .before .polynom-acc0 .ensures,
+        ← after-range .range-acc0 .ensures,
+        ← c .before .before .before .shifted .ensures,
+        ← c .before .before .has-solution .ensures,
+        ← c .before .roots-if .ensures .0,
+        ← c .h3-acc0 .ensures,
+      ),
+      c .before .roots-if .ensures .1,
+    )
 
 pub acc0-roots-spec : {M : Type 1} → statement M
 acc0-roots-spec =

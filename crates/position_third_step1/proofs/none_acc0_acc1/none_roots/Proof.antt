@@ -6,7 +6,15 @@ use Rattle.position_third_step1.proofs.none_acc0_acc1.none_roots.Tie as
 
 returns : tie.Need-returns
 unfolding noneRoots
-returns c = (rw (← c .before .before .before .h2-none .ensures, ← c .before .before .polynom-none .ensures, ← c .before .roots-if .ensures .0, ← c .range-none .ensures), c .before .roots-if .ensures .1)
+returns c = (
+  rw (
+    ← c .before .before .before .h2-none .ensures,
+    ← c .before .before .polynom-none .ensures,
+    ← c .before .roots-if .ensures .0,
+    ← c .range-none .ensures,
+  ),
+  c .before .roots-if .ensures .1,
+)
 
 pub none-roots-spec : {M : Type 1} → statement M
 none-roots-spec =

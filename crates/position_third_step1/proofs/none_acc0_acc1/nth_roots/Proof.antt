@@ -11,11 +11,19 @@ returns c = (rw (eq-eqb _ _ (c .before .if1 .taken)) (c .none-roots .ensures .0)
 
 returns-2 : tie.Need-returns-2
 unfolding nthRoots
-returns-2 c = (rw (ne-eqb _ _ (c .before .before .if1 .left), eq-eqb _ _ (c .before .if2 .taken)) (c .acc0-roots .ensures .0), c .acc0-roots .ensures .1)
+returns-2 c = (
+  rw (ne-eqb _ _ (c .before .before .if1 .left), eq-eqb _ _ (c .before .if2 .taken))
+      (c .acc0-roots .ensures .0),
+  c .acc0-roots .ensures .1,
+)
 
 returns-3 : tie.Need-returns-3
 unfolding nthRoots
-returns-3 c = (rw (ne-eqb _ _ (c .before .before .if1 .left), ne-eqb _ _ (c .before .if2 .left)) (c .acc1-roots .ensures .0), c .acc1-roots .ensures .1)
+returns-3 c = (
+  rw (ne-eqb _ _ (c .before .before .if1 .left), ne-eqb _ _ (c .before .if2 .left))
+      (c .acc1-roots .ensures .0),
+  c .acc1-roots .ensures .1,
+)
 
 pub nth-roots-spec : {M : Type 1} → statement M
 nth-roots-spec =

@@ -8,7 +8,11 @@ use Rattle.position_third_step1.proofs.none_acc0_acc1.roots_if.Tie as t
 
 returns : tie.Need-returns
 unfolding rootsIf
-returns c = (rw (c .before .before .if1 .taken, ← c .before .solve-quart-monic-coeffs .ensures) (c .ascending .ensures), rw (c .ascending .ensures, c .before .solve-quart-monic-coeffs .ensures) (quartic-count _ _ _ _))
+returns c = (
+  rw (c .before .before .if1 .taken, ← c .before .solve-quart-monic-coeffs .ensures)
+      (c .ascending .ensures),
+  rw (c .ascending .ensures, c .before .solve-quart-monic-coeffs .ensures) (quartic-count _ _ _ _),
+)
 
 returns-2 : tie.Need-returns-2
 unfolding rootsIf

@@ -9,7 +9,9 @@ returns : tie.Need-returns
 returns c = stopped _ _ _ _ refl (c .before .before .passes .ensures) (c .before .if1 .taken) (c .acceptance .ensures)
 
 returns-2 : tie.Need-returns-2
-returns-2 c = refused _ _ _ _ refl (c .before .before .passes .ensures) _ (c .before .if1 .left) (c .refusal .ensures ∙ ended _ _ _)
+returns-2 c =
+    refused _ _ _ _ refl (c .before .before .passes .ensures) _ (c .before .if1 .left)
+    (c .refusal .ensures ∙ ended _ _ _)
 
 pub try-jerkless-spec : {M : Type 1} → statement M
 try-jerkless-spec =

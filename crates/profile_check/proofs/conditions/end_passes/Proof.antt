@@ -4,7 +4,10 @@ use Rattle.profile_check.proofs.conditions.end_passes.Statement.{statem
 use Rattle.profile_check.proofs.conditions.end_passes.Tie as tie
 
 returns : tie.Need-returns
-returns c = rw (c .before .before .before .before .before .before .abs .ensures, c .before .before .before .abs2 .ensures, c .abs3 .ensures)
+returns c =
+    let after-speed = c .before .before .before in
+    let after-position = after-speed .before .before .before in
+    rw (after-position .abs .ensures, after-speed .abs2 .ensures, c .abs3 .ensures)
 
 pub end-passes-spec : {M : Type 1} → statement M
 end-passes-spec = tie.close (tie.spec (λ c κs. search needs) (λ c κs. search needs) (λ c κs. search needs) returns)

@@ -6,7 +6,13 @@ use Rattle.profile_check.proofs.conditions.phases_pass.Tie as tie
 
 returns : tie.Need-returns
 unfolding phasesPass
-returns c = rw (c .before .before .before .is-acc0-acc1 .ensures, c .before .before .ends-in-vel .ensures, c .before .is-acc0 .ensures, c .is-acc1 .ensures)
+returns c =
+    rw (
+      c .before .before .before .is-acc0-acc1 .ensures,
+      c .before .before .ends-in-vel .ensures,
+      c .before .is-acc0 .ensures,
+      c .is-acc1 .ensures,
+    )
 
 pub phases-pass-spec : {M : Type 1} → statement M
 phases-pass-spec =

@@ -7,9 +7,10 @@ use Rattle.profile_test.proofs.records.bounds_of.Tie as tie
 returns : tie.Need-returns
 unfolding boundsOf
 returns c =
+    let after-v-min = c .before .before .before .before in
     rw (
-      c .before .before .before .before .before .before .double-at .ensures,
-      c .before .before .before .before .double-at2 .ensures,
+      after-v-min .before .before .double-at .ensures,
+      after-v-min .double-at2 .ensures,
       c .before .before .double-at3 .ensures,
       c .double-at4 .ensures,
     )

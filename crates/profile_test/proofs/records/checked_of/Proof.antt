@@ -7,16 +7,20 @@ use Rattle.profile_test.proofs.records.checked_of.Tie as tie
 returns : tie.Need-returns
 unfolding checkedOf
 returns c =
+    let after-jerk = c .before .before .before in
+    let after-set-limits = after-jerk .before .before in
+    let after-reached = after-set-limits .before .before in
+    let after-signs = after-reached .before .before .before in
     rw (
       c .check .ensures,
       c .before .before .profile-of .ensures,
       c .before .bounds-of .ensures,
-      c .before .before .before .before .before .before .before .before .before .before .control-signs-of .ensures,
-      c .before .before .before .before .before .before .before .limits-of .ensures,
-      c .before .before .before .before .before .before .before .before .before .before .before .byte-at .ensures .0,
-      c .before .before .before .before .before .before .before .before .byte-at2 .ensures .0,
-      c .before .before .before .before .before .byte-at3 .ensures .0,
-      c .before .before .before .double-at .ensures,
+      after-signs .control-signs-of .ensures,
+      after-reached .limits-of .ensures,
+      after-signs .before .byte-at .ensures .0,
+      after-reached .before .byte-at2 .ensures .0,
+      after-set-limits .byte-at3 .ensures .0,
+      after-jerk .double-at .ensures,
     )
 
 pub checked-of-spec : {M : Type 1} → statement M

@@ -6,7 +6,12 @@ use Rattle.profile_test.proofs.records.start_of.Tie as tie
 
 returns : tie.Need-returns
 unfolding startOf
-returns c = rw (c .before .before .before .before .double-at .ensures, c .before .before .double-at2 .ensures, c .double-at3 .ensures)
+returns c =
+    rw (
+      c .before .before .before .before .double-at .ensures,
+      c .before .before .double-at2 .ensures,
+      c .double-at3 .ensures,
+    )
 
 pub start-of-spec : {M : Type 1} → statement M
 start-of-spec = tie.close (tie.spec (λ c κs. search needs) (λ c κs. search needs) (λ c κs. search needs) returns)

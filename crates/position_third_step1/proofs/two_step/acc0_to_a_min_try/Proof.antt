@@ -1,0 +1,10 @@
+-- `position_third_step1::two_step::acc0_to_a_min_try` meets its contract. Assumes nothing.
+use borrow.Author.Needs.{needs}
+use Rattle.position_third_step1.proofs.two_step.acc0_to_a_min_try.Statement.{statement}
+use Rattle.position_third_step1.proofs.two_step.acc0_to_a_min_try.Tie as tie
+
+returns : tie.Need-returns
+returns c = rw (← c .before .times-acc0-to-a-min .ensures) (c .try-of .ensures)
+
+pub acc0-to-a-min-try-spec : {M : Type 1} → statement M
+acc0-to-a-min-try-spec = tie.close (tie.spec (λ c κs. search needs) (λ c κs. search needs) returns)

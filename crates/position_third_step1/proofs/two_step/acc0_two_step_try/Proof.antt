@@ -1,0 +1,10 @@
+-- `position_third_step1::two_step::acc0_two_step_try` meets its contract. Assumes nothing.
+use borrow.Author.Needs.{needs}
+use Rattle.position_third_step1.proofs.two_step.acc0_two_step_try.Statement.{statement}
+use Rattle.position_third_step1.proofs.two_step.acc0_two_step_try.Tie as tie
+
+returns : tie.Need-returns
+returns c = rw (← c .before .times-acc0-two-step .ensures) (c .try-of .ensures)
+
+pub acc0-two-step-try-spec : {M : Type 1} → statement M
+acc0-two-step-try-spec = tie.close (tie.spec (λ c κs. search needs) (λ c κs. search needs) returns)
