@@ -49,7 +49,9 @@ module _ (s r : ℕ → Profile) where
   unfolding ofFour
   four-same h =
       let e : removal s ≡ removal r = removal-same s r h in
-      let f : ofThree (without (removal s) s) ≡ ofThree (without (removal s) r) = three-same (without (removal s) s) (without (removal s) r) (λ i l. h (movedUp (removal s) i) (moved-below 4 (removal s) i (omega arith))) in
+      let f : ofThree (without (removal s) s) ≡ ofThree (without (removal s) r) =
+      three-same (without (removal s) s) (without (removal s) r)
+      (λ i l. h (movedUp (removal s) i) (moved-below 4 (removal s) i (omega arith))) in
       rw (f, e)
 
 -- so the whole answer is the same where the profiles that count are

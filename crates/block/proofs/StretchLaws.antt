@@ -1,5 +1,5 @@
 -- No stretch ends before it begins, and one from a time on is as one that ends at infinity. Assumes nothing.
-use Prim.Native.Nat.{ℕ, _≤_, _<_}
+use Prim.Native.Nat.{ℕ}
 use mathlib.Core.Path.{_≡_, refl}
 use mathlib.Core.Bool.{Bool, true, false, _&&_}
 use lib.Dec.{T}
@@ -10,7 +10,7 @@ use Rattle.doubles.specs.Operators.{_<ᶠ_, _≤ᶠ_}
 use Rattle.profile.specs.declared.Profile.{Profile}
 use Rattle.block.specs.Blocks.{duration, noInterval, intervalBetween, blockOf, inside}
 use Rattle.block.specs.Selection.{selected}
-use Rattle.block.specs.Plans.{inOrder, IntervalOf, none, some, BlockOf, made, refusal}
+use Rattle.block.specs.Plans.{inOrder, IntervalOf, none, some, BlockOf, chosen, refusal}
 use Rattle.block.specs.declared.Stretch.the-variants.{Between, From}
 use Rattle.block.specs.declared.Interval.{Interval}
 use Rattle.block.specs.declared.Block.{Block}
@@ -30,14 +30,16 @@ interval-in-order : (s : ℕ → Profile) (n : ℕ) {a : Interval} → IntervalO
 interval-in-order s n none = unfold noInterval in tt
 interval-in-order s n (some i j hi hj) = between-in-order (s i) (s j)
 
-pub selected-in-order : (s : ℕ → Profile) (n : ℕ) → selected s n .refusal ≡ 0 → T (inOrder (selected s n .block .a .stretch)) × T (inOrder (selected s n .block .b .stretch))
+pub selected-in-order : (s : ℕ → Profile) (n : ℕ) → selected s n .refusal ≡ 0
+    → T (inOrder (selected s n .block .a .stretch)) × T (inOrder (selected s n .block .b .stretch))
 selected-in-order s n e = go (plan-of s n e)
   where
     go : {b : Block} → BlockOf s n b → T (inOrder (b .a .stretch)) × T (inOrder (b .b .stretch))
-    go (made i {a} {b} hi ha hb) = unfold blockOf in (interval-in-order s n ha, interval-in-order s n hb)
+    go (chosen i {a} {b} hi ha hb) = unfold blockOf in (interval-in-order s n ha, interval-in-order s n hb)
 
 -- so between two numbers the left end is at most the right one
-pub ends-in-order : (left right : Float) → isNan left ≡ false → isNan right ≡ false → T (inOrder (Between left right)) → T (left ≤ᶠ right)
+pub ends-in-order : (left right : Float) → isNan left ≡ false → isNan right ≡ false → T (inOrder (Between left right))
+    → T (left ≤ᶠ right)
 ends-in-order left right hl hr h = not-below right left hr hl (is-false (right <ᶠ left) h)
 
 -- ---- a stretch from a time on blocks finite times as one that ends at infinity does

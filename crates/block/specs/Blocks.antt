@@ -1,4 +1,4 @@
--- A plan: the shortest profile and at most two blocked stretches of time. Which times are blocked. Definitions only.
+-- A plan: the shortest of the accepted profiles and at most two blocked stretches of time. Which times are blocked. Definitions only.
 use Prim.Native.Nat.{ℕ}
 use mathlib.Core.Path.{_≡_}
 use mathlib.Core.Bool.{Bool, false, cond, _&&_, _||_}
@@ -97,7 +97,7 @@ inside Nothing t = false
 inside (Between left right) t = (left <ᶠ t) && (t <ᶠ right)
 inside (From left) t = left <ᶠ t
 
--- too short, or inside a stretch
+-- below the plan's duration, or inside a stretch
 unfoldable pub isBlocked : Block → Float → Bool
 isBlocked b t = (t <ᶠ b .«t_min») || inside (b .a .stretch) t || inside (b .b .stretch) t
 

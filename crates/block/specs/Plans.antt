@@ -39,13 +39,14 @@ pub data IntervalOf (s : ℕ → Profile) (n : ℕ) : Interval → Type 0 where
 
 -- one of the first n profiles, with two such stretches
 pub data BlockOf (s : ℕ → Profile) (n : ℕ) : Block → Type 0 where
-  made : (i : ℕ) {a b : Interval} → i < n → IntervalOf s n a → IntervalOf s n b → BlockOf s n (blockOf (s i) a b)
+  chosen : (i : ℕ) {a b : Interval} → i < n → IntervalOf s n a → IntervalOf s n b → BlockOf s n (blockOf (s i) a b)
 
 -- such a plan, or a refusal
 pub data AnswerOf (s : ℕ → Profile) (n : ℕ) : Answer → Type 0 where
   plan : {b : Block} → BlockOf s n b → AnswerOf s n (planned b)
   refusal : (k : ℕ) → 0 < k → AnswerOf s n (refused k)
 
--- the number of the refusal: 4 for count 0, 7 for a count above 5, 5 where four count and no removal rule applies; 0 for a plan
+-- the number of the refusal: 4 for count 0, 7 for a count above 5, 5 where four count and no removal rule applies; 0
+-- for a plan
 abbrev pub refusalOf : (ℕ → Profile) → ℕ → ℕ
 refusalOf s n = cond (eqb n 0) 4 (cond (ltb 5 n) 7 (cond (eqb n 4 && eqb (removal s) 0) 5 0))

@@ -1,4 +1,5 @@
--- Selection among the profiles of a list, `calculate_block`: the profile i of the list is s i, and n of them count. Definitions only.
+-- Selection among the profiles of a list, `calculate_block`: the profile i of the list is s i, and n of them count.
+-- Definitions only.
 -- Every comparison stands with the Rust's sides: with a NaN it is false, so it may not be turned round.
 use Prim.Native.Nat.{ℕ, zero, suc, _+_, _%_}
 use mathlib.Core.Bool.{Bool, true, false, cond, not, _&&_}
@@ -42,7 +43,8 @@ near e t u = absᶠ (t -ᶠ u) <ᶠ e
 
 -- ---- count 2
 
--- under 8 EPS apart: the first, no stretch; else the first if its total is less, else the second, blocked up to the other
+-- under 8 EPS apart: the first, no stretch; else the first if its total is less, else the second, blocked up to the
+-- other
 unfoldable pub ofTwo : Profile → Profile → Answer
 ofTwo p q =
     cond (near (8ᶠ *ᶠ eps) (total p) (total q)) (planned (blockOf p noInterval noInterval))
@@ -52,7 +54,8 @@ ofTwo p q =
 
 -- ---- counts 3 and 5
 
--- of i and the later j the one with the least total. A comparison with NaN counts as equality, and at equality it is the earlier
+-- of i and the later j the one with the least total. A comparison with NaN counts as equality, and at equality it is
+-- the earlier
 unfoldable pub faster : (ℕ → Profile) → (i j : ℕ) → ℕ
 faster s i j = cond (total (s j) <ᶠ total (s i)) j i
 
@@ -67,8 +70,8 @@ ofThree s =
     let i = fastest s 2 in
     planned (blockOf (s i) (intervalBetween (s ((i + 1) % 3)) (s ((i + 2) % 3))) noInterval)
 
--- the shortest p and four others, in the order in which they follow it: the stretches are between the first two and between the last two if
--- the first two have the same direction, else between the outer two and between the inner two
+-- the shortest p and four others, in the order in which they follow it: the stretches are between the first two and
+-- between the last two if the first two have the same direction, else between the outer two and between the inner two
 unfoldable pub withTwo : (p q1 q2 q3 q4 : Profile) → Answer
 withTwo p q1 q2 q3 q4 =
     cond (sameDirection (q1 .direction) (q2 .direction))

@@ -1,4 +1,5 @@
--- What the inner steps of selection give. Definitions only, for their contracts: the meaning of a plan doesn't rest on them.
+-- What the inner steps of selection give. Definitions only, for their contracts: the meaning of a plan doesn't rest on
+-- them.
 use Prim.Native.Nat.{ℕ}
 use mathlib.Core.Bool.{cond}
 use mathlib.Core.List.{List, [], _∷_}

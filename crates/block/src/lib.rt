@@ -1,8 +1,10 @@
-// Selection among the accepted profiles of a move: the shortest one, and the stretches of time that no profile has. What block.rs declares, by value.
+// Selection among the accepted profiles of a move: the shortest one, and the stretches of time that no profile has.
+// What block.rs declares, by value.
 
 ghost use mathlib.Core.Path.{_≡_};
 ghost use Prim.Native.Nat.{_≤_};
-ghost use Rattle.block.specs.Blocks.{total, duration, noInterval, intervalFrom, intervalBetween, blockOf, planned, refused, countOf, leftEnd, rightEnd, inside, Says};
+ghost use Rattle.block.specs.Blocks.{total, duration, noInterval, intervalFrom, intervalBetween, blockOf};
+ghost use Rattle.block.specs.Blocks.{planned, refused, countOf, leftEnd, rightEnd, inside, Says};
 use profile::Profile;
 
 mod select; // select.rt: calculate_block
@@ -21,7 +23,7 @@ pub struct Interval {
     pub profile: Profile,
 }
 
-// The shortest duration, its profile, and two stretches, which aren't sorted and can overlap.
+// The duration of the shortest accepted profile, that profile, and two stretches, which aren't sorted and can overlap.
 pub struct Block {
     pub t_min: f64,
     pub p_min: Profile,

@@ -1,4 +1,5 @@
-// calculate_block: the shortest of the profiles that count, and the stretches between the others. An array holds as many profiles as count.
+// calculate_block: the shortest of the profiles that count, and the stretches between the others. An array holds as
+// many profiles as count.
 
 ghost use mathlib.Core.Path.{_≡_};
 ghost use Prim.Native.Nat.{_<_};

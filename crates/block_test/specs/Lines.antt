@@ -22,9 +22,14 @@ use Rattle.block_test.specs.Records.{selectedOf, givenOf}
 unfoldable pub intervalFields : Interval → List ℕ
 intervalFields i = field (kindOf (i .stretch)) ++ doubleFields (bothEnds (i .stretch)) ++ field (hex (i .profile .pf))
 
--- shortest duration, the mark of its profile, and the two stretches
+-- the plan's duration, the mark of its profile, and the two stretches
 unfoldable pub blockText : Block → List ℕ
-blockText x = ascii "ok" ++ field (hex (x .«t_min»)) ++ field (hex (x .«p_min» .pf)) ++ intervalFields (x .a) ++ intervalFields (x .b)
+blockText x =
+    ascii "ok"
+    ++ field (hex (x .«t_min»))
+    ++ field (hex (x .«p_min» .pf))
+    ++ intervalFields (x .a)
+    ++ intervalFields (x .b)
 
 unfoldable pub answerText : Answer → List ℕ
 answerText x = cond (eqb (x .refusal) 0) (blockText (x .block)) (ascii "refused" ++ field (decimal (x .refusal)))
@@ -45,4 +50,5 @@ blockingFields x b =
 
 -- a refusal leaves the empty plan
 unfoldable pub lineOf : List ℕ → List ℕ
-lineOf b = answerText (selectedOf b) ++ blockingFields (selectedOf b .block) b ++ blockingFields (givenOf b) b ++ ascii "\n"
+lineOf b =
+    answerText (selectedOf b) ++ blockingFields (selectedOf b .block) b ++ blockingFields (givenOf b) b ++ ascii "\n"

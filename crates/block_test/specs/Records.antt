@@ -7,8 +7,10 @@ use lib.ListN.{getD, set}
 use lib.Ieee.{Float}
 use Rattle.doubles.specs.Constants.{1ᶠ, 2ᶠ, 3ᶠ, 4ᶠ, 5ᶠ, 6ᶠ}
 use Rattle.encoding.specs.Encoding.{doubleAt}
-use Rattle.profile.specs.Boundary.{emptyProfile}
+use Rattle.profile.specs.Boundary.{emptyProfile, startOf, withBoundary}
+use Rattle.profile.specs.With.{withSums, withNames}
 use Rattle.profile.specs.declared.Profile.{Profile}
+use Rattle.profile.specs.declared.Target.{Target}
 use Rattle.profile.specs.declared.Direction.{Direction}
 use Rattle.profile.specs.declared.Direction.the-variants.{UP, DOWN}
 use Rattle.block.specs.Selection.{slot, selected}
@@ -28,26 +30,14 @@ stretchOf n left right = cond (eqb n 0) Nothing (cond (eqb n 1) (Between left ri
 
 -- ---- the selection: a count at 0, six profiles from 1 on
 
--- the profile of the 25 bytes from `at` on, total, brake, accel and direction: an empty one with these, and a mark as its pf
+-- the profile of the 25 bytes from `at` on, total, brake, accel and direction: an empty one with these, and a mark as
+-- its pf
 unfoldable pub profileAt : List ℕ → ℕ → Float → Profile
 profileAt b at mark =
-    let q = emptyProfile in
-    record {
-      t = q .t;
-      «t_sum» = set (q .«t_sum») 6 (doubleAt b at);
-      j = q .j;
-      a = q .a;
-      v = q .v;
-      p = q .p;
-      brake = doubleAt b (at + 8);
-      accel = doubleAt b (at + 16);
-      pf = mark;
-      vf = q .vf;
-      af = q .af;
-      limits = q .limits;
-      direction = directionOf (getD b (at + 24) 0);
-      «control_signs» = q .«control_signs»;
-    }
+    let q = withSums emptyProfile (set (emptyProfile .«t_sum») 6 (doubleAt b at)) in
+    let target : Target = record { pf = mark; vf = q .vf; af = q .af } in
+    withNames (withBoundary q (startOf q) target (doubleAt b (at + 8)) (doubleAt b (at + 16)))
+    (q .limits) (directionOf (getD b (at + 24) 0)) (q .«control_signs»)
 
 unfoldable pub profilesOf : List ℕ → List Profile
 profilesOf b =
@@ -64,7 +54,8 @@ selectedOf b = selected (slot (profilesOf b)) (getD b 0 0)
 
 -- ---- the block: t_min at 151, then for each of two stretches its kind, left end and right end; its profiles are empty
 unfoldable pub intervalAt : List ℕ → ℕ → Interval
-intervalAt b at = record { stretch = stretchOf (getD b at 0) (doubleAt b (at + 1)) (doubleAt b (at + 9)); profile = emptyProfile }
+intervalAt b at =
+    record { stretch = stretchOf (getD b at 0) (doubleAt b (at + 1)) (doubleAt b (at + 9)); profile = emptyProfile }
 
 unfoldable pub givenOf : List ℕ → Block
 givenOf b = record { «t_min» = doubleAt b 151; «p_min» = emptyProfile; a = intervalAt b 159; b = intervalAt b 176 }

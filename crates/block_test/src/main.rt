@@ -1,7 +1,8 @@
-// Calls of selection and of `is_blocked` in, their answers out, as the oracle's program `blocks` has them. A record is a count, a byte; six profiles, each its total, brake
-// and accel as big-endian doubles and its direction as a byte; a block: t_min, and for each stretch its kind, a byte, and two ends; and four times. A line is `refused` and
-// the number, or `ok`, the shortest duration, the mark of its profile, and for each stretch its kind, ends and the mark of the profile beside it; then what `is_blocked`
-// says of each time, for the block selected and for the block given.
+// Calls of selection and of `is_blocked` in, their answers out, as the oracle's program `blocks` has them. A record is
+// a count, a byte; six profiles, each its total, brake and accel as big-endian doubles and its direction as a byte; a
+// block: t_min, and for each stretch its kind, a byte, and two ends; and four times. A line is `refused` and the
+// number, or `ok`, the plan's duration, the mark of its profile, and for each stretch its kind, ends and the mark of
+// the profile beside it; then what `is_blocked` says of each time, for the block selected and for the block given.
 
 mod records; // records.rt: what the bytes of a record mean
 mod lines; // lines.rt: the line that answers a record

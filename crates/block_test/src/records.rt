@@ -2,7 +2,8 @@
 
 ghost use mathlib.Core.Path.{_≡_};
 ghost use Prim.Native.Nat.{_+_, _≤_};
-ghost use Rattle.block_test.specs.Records.{directionOf, stretchOf, profileAt, profilesOf, selectedOf, intervalAt, givenOf};
+ghost use Rattle.block_test.specs.Records.{directionOf, stretchOf, profileAt, profilesOf, selectedOf, intervalAt};
+ghost use Rattle.block_test.specs.Records.{givenOf};
 use block::Answer;
 use block::Block;
 use block::Interval;

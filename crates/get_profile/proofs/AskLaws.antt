@@ -15,7 +15,7 @@ use Rattle.trees.specs.Tree.{Tree, done, bind, questions, StopsAtYes}
 use Rattle.trees.specs.InTurn.{upTo}
 use Rattle.trees.proofs.TreeLaws.{questions-bind, stops-bind}
 use Rattle.trees.proofs.InTurnLaws.{asks-each, asks-up-to, up-to-end}
-use Rattle.candidates.specs.Try.{Try}
+use Rattle.candidates.specs.declared.Try.{Try}
 use Rattle.candidates.specs.List.{added, freshList}
 use Rattle.candidates.specs.declared.Candidates.{Candidates}
 use Rattle.position_third_step1.specs.CheckTree.{tries}
@@ -26,13 +26,16 @@ use Rattle.position_third_step1.specs.TimeAllSingleStep.{acceptance, refusal, s
 use Rattle.position_third_step1.proofs.FamilyLaws.{single-step-stops}
 use Rattle.block.specs.declared.Answer.{Answer}
 use Rattle.get_profile.specs.Stages.{itselfOrder, restingOrder, movingOrder, twoStepOrder, stageTries}
-use Rattle.get_profile.specs.GetProfile.{resting, moving, twoStep, towardsTarget, firstSearch, tryFamilies, getProfileBy, getProfile, firstTries, allTries}
-use Rattle.get_profile.proofs.FamiliesLaws.{none, also, SomeCount, StopsAtFirst, first-stops, each-asked, none-asked, refuse, Asks, first-asks, none-asks-first}
+use Rattle.get_profile.specs.GetProfile.{resting, moving, twoStep, towardsTarget, firstSearch, tryFamilies}
+use Rattle.get_profile.specs.GetProfile.{getProfileBy, getProfile, firstTries, allTries}
+use Rattle.get_profile.proofs.FamiliesLaws.{none, also, SomeCount, StopsAtFirst, first-stops, each-asked}
+use Rattle.get_profile.proofs.FamiliesLaws.{none-asked, refuse, Asks, first-asks, none-asks-first}
 use Rattle.get_profile.proofs.StageLaws.{first-stages-ask, each-stages-ask, first-stages-stop}
 
 module _ (start : Start) (target : Target) (k : Constants) where
   -- ---- where every answer is no
-  search-asks : (at-rest at-target : Bool) (m : Limits) → Asks (firstSearch start target k at-rest at-target m) (firstTries start target k at-rest at-target m)
+  search-asks : (at-rest at-target : Bool) (m : Limits)
+      → Asks (firstSearch start target k at-rest at-target m) (firstTries start target k at-rest at-target m)
   unfolding firstSearch resting moving
   search-asks true true m = first-stages-ask start target k true (towardsTarget k m) itselfOrder
   search-asks true false m = first-stages-ask start target k true (towardsTarget k m) restingOrder
@@ -42,9 +45,14 @@ module _ (start : Start) (target : Target) (k : Constants) where
   unfolding twoStep
   two-step-asks m = first-stages-ask start target k true m twoStepOrder
 
-  families-ask : (m : Limits) → Asks (tryFamilies start target k m) (firstTries start target k (endsAtRest target) (restsAtTarget start k) m ++ (stageTries start target k m twoStepOrder ++ []))
+  families-ask : (m : Limits)
+      → Asks (tryFamilies start target k m)
+      (firstTries start target k (endsAtRest target) (restsAtTarget start k) m
+      ++ (stageTries start target k m twoStepOrder ++ []))
   unfolding tryFamilies
-  families-ask m = first-asks _ _ (search-asks (endsAtRest target) (restsAtTarget start k) m) (first-asks _ _ (two-step-asks m) none-asks-first)
+  families-ask m =
+      first-asks _ _ (search-asks (endsAtRest target) (restsAtTarget start k) m)
+      (first-asks _ _ (two-step-asks m) none-asks-first)
 
   -- ---- up to the first success
   rest-stops : (at-target : Bool) (m : Limits) → StopsAtFirst (firstSearch start target k true at-target m)
@@ -70,7 +78,8 @@ module _ (start : Start) (target : Target) (k : Constants) where
     pub moving-asks : (m : Limits) (c : Candidates) → questions answer (moving start target k m c)
         ≡ noneAcc0Acc1Tries start target k m ++ (noneAcc0Acc1Tries start target k (swappedLimits m)
         ++ (acc0Acc1Tries start target k m ++ (acc0Acc1Tries start target k (swappedLimits m)
-        ++ (upTo true answer (allVelTries start target k m) ++ (upTo true answer (allVelTries start target k (swappedLimits m)) ++ [])))))
+        ++ (upTo true answer (allVelTries start target k m)
+        ++ (upTo true answer (allVelTries start target k (swappedLimits m)) ++ [])))))
     unfolding moving
     moving-asks m =
         each-asked answer _ _ (all-asked _)
@@ -80,8 +89,9 @@ module _ (start : Start) (target : Target) (k : Constants) where
         (each-asked answer _ _ (λ c. asks-up-to added answer true c _)
         (each-asked answer _ _ (λ c. asks-up-to added answer true c _) (none-asked answer))))))
 
--- ---- every plan
-end-asks : {S : Type 0} (t : Tree Try Bool S) (f : S → Answer) → questions refuse (bind t (λ d. done (f d))) ≡ questions refuse t
+-- ---- every move
+end-asks : {S : Type 0} (t : Tree Try Bool S) (f : S → Answer)
+    → questions refuse (bind t (λ d. done (f d))) ≡ questions refuse t
 unfolding questions
 end-asks t f = questions-bind refuse t (λ d. done (f d)) ∙ append-nil _
 
@@ -103,14 +113,28 @@ module _ (input : Profile) (m : Limits) where
   asked-in-order = go (hasZeroLimit m) refl
     where
       go : (zero-limit : Bool) → hasZeroLimit m ≡ zero-limit → questions refuse (getProfile input m) ≡ allTries input m
-      go true e = ap (questions refuse) (tree-is e) ∙ end-asks _ _ ∙ asks-each acceptance true (refusal (boundaryFrom emptyProfile input)) (singleStepTries (startOf input) (targetOf input) k m) ∙ rw e
-      go false e = ap (questions refuse) (tree-is e) ∙ end-asks _ _ ∙ families-ask (startOf input) (targetOf input) k m (freshList input) (nothing-counts input) .0 ∙ rw (e, append-nil)
+      go true e =
+          ap (questions refuse) (tree-is e)
+          ∙ end-asks _ _
+          ∙ asks-each acceptance true (refusal (boundaryFrom emptyProfile input))
+          (singleStepTries (startOf input) (targetOf input) k m)
+          ∙ rw e
+      go false e =
+          ap (questions refuse) (tree-is e)
+          ∙ end-asks _ _
+          ∙ families-ask (startOf input) (targetOf input) k m (freshList input) (nothing-counts input) .0
+          ∙ rw (e, append-nil)
 
   -- nothing is asked after the first success: on the single-step path, and for a resting target
   pub single-step-path-stops : hasZeroLimit m ≡ true → StopsAtYes (λ (r : Answer). Unit {0}) (getProfile input m)
   unfolding getProfileBy
-  single-step-path-stops z = rw (tree-is z) (stops-bind (λ d. d .ok ≡ true) _ _ (λ d p. tt) (λ d. tt) _ (single-step-stops (boundaryFrom emptyProfile input) (startOf input) (targetOf input) k m))
+  single-step-path-stops z =
+      rw (tree-is z) (stops-bind (λ d. d .ok ≡ true) _ _ (λ d p. tt) (λ d. tt) _
+      (single-step-stops (boundaryFrom emptyProfile input) (startOf input) (targetOf input) k m))
 
-  pub resting-target-stops : hasZeroLimit m ≡ false → endsAtRest (targetOf input) ≡ true → StopsAtYes (λ (r : Answer). Unit {0}) (getProfile input m)
+  pub resting-target-stops : hasZeroLimit m ≡ false → endsAtRest (targetOf input) ≡ true
+      → StopsAtYes (λ (r : Answer). Unit {0}) (getProfile input m)
   unfolding getProfileBy
-  resting-target-stops z h = rw (tree-is z) (stops-bind SomeCount _ _ (λ c p. tt) (λ c. tt) _ (families-stop (startOf input) (targetOf input) k m h (freshList input)))
+  resting-target-stops z h =
+      rw (tree-is z) (stops-bind SomeCount _ _ (λ c p. tt) (λ c. tt) _
+      (families-stop (startOf input) (targetOf input) k m h (freshList input)))

@@ -8,7 +8,8 @@ use native.Mathlib.Omega.{arith}
 use borrow.Author.Tests.{lt-ltb, le-ltb}
 use Rattle.trees.specs.Tree.{bind, run, questions, AtMost, ended, AllNo, Over, StopsAtYes}
 use Rattle.trees.proofs.TreeLaws.{run-bind, questions-bind, all-no-bind, stops-bind, at-most-bind}
-use Rattle.candidates.specs.Try.{Try, passes}
+use Rattle.candidates.specs.Try.{passes}
+use Rattle.candidates.specs.declared.Try.{Try}
 use Rattle.candidates.specs.declared.Candidates.{Candidates}
 use Rattle.position_third_step1.specs.CheckTree.{found}
 use Rattle.get_profile.specs.Families.{Family, isFound, unlessFound, eachOf, firstOf}
@@ -20,13 +21,15 @@ module _ (f : Family) (fs : List Family) (c : Candidates) {d : Candidates} (e : 
 
   first-is : {b : Bool} → isFound d ≡ b → found (firstOf (f ∷ fs) c) ≡ found (unlessFound b (firstOf fs) d)
   unfolding firstOf
-  first-is h = then-is (λ z. unlessFound (isFound z) (firstOf fs) z) ∙ ap (λ (b : Bool). found (unlessFound b (firstOf fs) d)) h
+  first-is h =
+      then-is (λ z. unlessFound (isFound z) (firstOf fs) z) ∙ ap (λ (b : Bool). found (unlessFound b (firstOf fs) d)) h
 
   pub first-finds : 0 < d .«current_index» → d ≡ found (firstOf (f ∷ fs) c)
   unfolding unlessFound run
   first-finds h = sym (first-is (lt-ltb 0 (d .«current_index») h))
 
-  pub first-fails : d .«current_index» ≤ 0 → {r : Candidates} → r ≡ found (firstOf fs d) → r ≡ found (firstOf (f ∷ fs) c)
+  pub first-fails : d .«current_index» ≤ 0 → {r : Candidates} → r ≡ found (firstOf fs d)
+      → r ≡ found (firstOf (f ∷ fs) c)
   unfolding unlessFound
   first-fails h e′ = e′ ∙ sym (first-is (le-ltb 0 (d .«current_index») h))
 
@@ -37,7 +40,8 @@ module _ (f : Family) (fs : List Family) (c : Candidates) {d : Candidates} (e : 
 -- after the last one nothing is left, whether it finds a profile or not
 pub last-of-first : (f : Family) (c : Candidates) {r : Candidates} → r ≡ found (f c) → r ≡ found (firstOf (f ∷ []) c)
 unfolding firstOf unlessFound run
-last-of-first f c {r} e = e ∙ sym (run-bind passes (f c) (λ z. unlessFound (isFound z) (firstOf []) z) ∙ left (isFound (found (f c))))
+last-of-first f c {r} e =
+    e ∙ sym (run-bind passes (f c) (λ z. unlessFound (isFound z) (firstOf []) z) ∙ left (isFound (found (f c))))
   where
     left : (b : Bool) → found (unlessFound b (firstOf []) (found (f c))) ≡ found (f c)
     left true = refl
@@ -48,7 +52,8 @@ unfolding eachOf run
 last-of-each f c e = e ∙ sym (run-bind passes (f c) (eachOf []))
 
 -- ---- what every family keeps
-unless-found-is : (P : Candidates → Type 0) (b : Bool) (f : Family) (c : Candidates) → P c → (P c → P (found (f c))) → P (found (unlessFound b f c))
+unless-found-is : (P : Candidates → Type 0) (b : Bool) (f : Family) (c : Candidates) → P c → (P c → P (found (f c)))
+    → P (found (unlessFound b f c))
 unfolding unlessFound run
 unless-found-is P true f c p h = p
 unless-found-is P false f c p h = h p
@@ -71,7 +76,8 @@ module _ (P : Candidates → Type 0) where
   pub each-keeps : {fs : List Family} → Every (Keeps P) fs → Keeps P (eachOf fs)
   unfolding eachOf run
   each-keeps none c p = p
-  each-keeps (also {f} {fs} h hs) c p = subst P (sym (run-bind passes (f c) (eachOf fs))) (each-keeps hs (found (f c)) (h c p))
+  each-keeps (also {f} {fs} h hs) c p =
+      subst P (sym (run-bind passes (f c) (eachOf fs))) (each-keeps hs (found (f c)) (h c p))
 
 -- ---- where nothing is found
 
@@ -83,8 +89,10 @@ then-none-found : (f g : Family) → NoneFound f → NoneFound g → NoneFound (
 then-none-found f g hf hg c =
     let e = ap (λ (z : Candidates). z .«current_index») (run-bind passes (f c) g) in
     let b = all-no-bind passes (f c) g in
-    let later = hg (found (f c)) in
-    (λ h. let w = later .0 (sym e ∙ h) in (hf c .0 (w .0) .0, b .1 (hf c .0 (w .0) .1, w .1)), λ z. let w = b .0 (z .1) in e ∙ later .1 (hf c .1 (z .0, w .0), w .1))
+    let later = hg (found (f c)) in (
+      λ h. let w = later .0 (sym e ∙ h) in (hf c .0 (w .0) .0, b .1 (hf c .0 (w .0) .1, w .1)),
+      λ z. let w = b .0 (z .1) in e ∙ later .1 (hf c .1 (z .0, w .0), w .1),
+    )
 
 unless-none-found : (b : Bool) (f : Family) → NoneFound f → NoneFound (λ c. unlessFound b f c)
 unfolding unlessFound run
@@ -94,7 +102,9 @@ unless-none-found false f h c = h c
 pub first-none-found : {fs : List Family} → Every NoneFound fs → NoneFound (firstOf fs)
 unfolding firstOf run
 first-none-found none c = (λ e. (e, tt), λ z. z .0)
-first-none-found (also {f} {fs} h hs) c = then-none-found f (λ d. unlessFound (isFound d) (firstOf fs) d) h (λ d. unless-none-found (isFound d) (firstOf fs) (first-none-found hs) d) c
+first-none-found (also {f} {fs} h hs) c =
+    then-none-found f (λ d. unlessFound (isFound d) (firstOf fs) d) h
+    (λ d. unless-none-found (isFound d) (firstOf fs) (first-none-found hs) d) c
 
 pub each-none-found : {fs : List Family} → Every NoneFound fs → NoneFound (eachOf fs)
 unfolding eachOf run
@@ -128,7 +138,8 @@ first-stops (also {f} {fs} h hs) c =
 
 -- ---- all of them, whatever the answers
 pub each-asked : (answer : Try → Bool) (f : Family) (fs : List Family) {xs ys : List Try}
-    → ((c : Candidates) → questions answer (f c) ≡ xs) → ((c : Candidates) → questions answer (eachOf fs c) ≡ ys) → (c : Candidates) → questions answer (eachOf (f ∷ fs) c) ≡ xs ++ ys
+    → ((c : Candidates) → questions answer (f c) ≡ xs) → ((c : Candidates) → questions answer (eachOf fs c) ≡ ys)
+    → (c : Candidates) → questions answer (eachOf (f ∷ fs) c) ≡ xs ++ ys
 unfolding eachOf
 each-asked answer f fs hf hs c = questions-bind answer (f c) (eachOf fs) ∙ rw (hf c, hs (run answer (f c)))
 
@@ -145,18 +156,22 @@ abbrev pub Asks : Family → List Try → Type 0
 Asks f xs = (c : Candidates) → c .«current_index» ≡ 0 → (questions refuse (f c) ≡ xs) × (run refuse (f c) ≡ c)
 
 then-asks : (f g : Family) {xs ys : List Try} → Asks f xs → Asks g ys → Asks (λ c. bind (f c) g) (xs ++ ys)
-then-asks f g {xs} hf hg c z =
-    (questions-bind refuse (f c) g ∙ rw (hf c z .0, hf c z .1, hg c z .0), run-bind refuse (f c) g ∙ ap (λ (d : Candidates). run refuse (g d)) (hf c z .1) ∙ hg c z .1)
+then-asks f g {xs} hf hg c z = (
+  questions-bind refuse (f c) g ∙ rw (hf c z .0, hf c z .1, hg c z .0),
+  run-bind refuse (f c) g ∙ ap (λ (d : Candidates). run refuse (g d)) (hf c z .1) ∙ hg c z .1,
+)
 
 unless-asks : (f : Family) {xs : List Try} → Asks f xs → Asks (λ c. unlessFound (isFound c) f c) xs
 unfolding unlessFound
 unless-asks f h c z = rw (le-ltb 0 (c .«current_index») (omega arith)) (h c z)
 
-pub first-asks : (f : Family) (fs : List Family) {xs ys : List Try} → Asks f xs → Asks (firstOf fs) ys → Asks (firstOf (f ∷ fs)) (xs ++ ys)
+pub first-asks : (f : Family) (fs : List Family) {xs ys : List Try} → Asks f xs → Asks (firstOf fs) ys
+    → Asks (firstOf (f ∷ fs)) (xs ++ ys)
 unfolding firstOf
 first-asks f fs hf hs = then-asks f (λ d. unlessFound (isFound d) (firstOf fs) d) hf (unless-asks (firstOf fs) hs)
 
-pub each-asks : (f : Family) (fs : List Family) {xs ys : List Try} → Asks f xs → Asks (eachOf fs) ys → Asks (eachOf (f ∷ fs)) (xs ++ ys)
+pub each-asks : (f : Family) (fs : List Family) {xs ys : List Try} → Asks f xs → Asks (eachOf fs) ys
+    → Asks (eachOf (f ∷ fs)) (xs ++ ys)
 unfolding eachOf
 each-asks f fs hf hs = then-asks f (eachOf fs) hf hs
 

@@ -21,7 +21,9 @@ use Rattle.position_third_step1.specs.TimeAllSingleStep.{timeAllSingleStep}
 use Rattle.block.specs.Selection.{selected}
 use Rattle.block.specs.declared.Answer.{Answer}
 use Rattle.get_profile.specs.Stages.{none-acc0-acc1, given, stageOf}
-use Rattle.get_profile.specs.GetProfile.{resting, moving, towardsTarget, firstSearch, tryFamilies, singleStepAnswer, selectedFrom, getProfileBy, getProfile, getProfileAnswer}
+use Rattle.get_profile.specs.GetProfile.{resting, moving, towardsTarget, firstSearch, tryFamilies}
+use Rattle.get_profile.specs.GetProfile.{singleStepAnswer, selectedFrom, getProfileBy, getProfile}
+use Rattle.get_profile.specs.GetProfile.{getProfileAnswer}
 use Rattle.get_profile.proofs.FamiliesLaws.{last-of-first}
 
 not-true : (b : Bool) → not b ≡ true → b ≡ false
@@ -32,22 +34,28 @@ not-false : (b : Bool) → not b ≡ false → b ≡ true
 not-false true h = refl
 not-false false h = absurd (true≢false h)
 
--- at-rest and at-target are the answers to the two tests
-module _ (start : Start) (target : Target) (k : Constants) (m : Limits) (c : Candidates) {at-rest : Bool} (er : at-rest ≡ endsAtRest target) where
+-- at-rest and at-target are what the code finds of the two conditions
+module _ (start : Start) (target : Target) (k : Constants) (m : Limits) (c : Candidates) {at-rest : Bool}
+    (er : at-rest ≡ endsAtRest target) where
   abbrev first : Candidates
   first = found (firstSearch start target k (endsAtRest target) (restsAtTarget start k) m c)
 
   pub to-motion : not at-rest ≡ true → {r : Candidates} → r ≡ found (moving start target k m c) → r ≡ first
   unfolding firstSearch
-  to-motion h e = e ∙ sym (ap (λ (b : Bool). found (firstSearch start target k b (restsAtTarget start k) m c)) (sym er ∙ not-true at-rest h))
+  to-motion h e =
+      e ∙ sym (ap (λ (b : Bool). found (firstSearch start target k b (restsAtTarget start k) m c))
+      (sym er ∙ not-true at-rest h))
 
-  module _ (h : not at-rest ≡ false) {at-target : Bool} (et : at-target ≡ restsAtTarget start k) {towards : Limits} (em : towards ≡ towardsTarget k m) where
+  module _ (h : not at-rest ≡ false) {at-target : Bool} (et : at-target ≡ restsAtTarget start k) {towards : Limits}
+      (em : towards ≡ towardsTarget k m) where
     first-is : {b : Bool} → at-target ≡ b → first ≡ found (firstSearch start target k true b m c)
     first-is g =
-        ap (λ (b : Bool). found (firstSearch start target k b (restsAtTarget start k) m c)) (sym er ∙ not-false at-rest h)
+        ap (λ (b : Bool). found (firstSearch start target k b (restsAtTarget start k) m c))
+        (sym er ∙ not-false at-rest h)
         ∙ ap (λ (b : Bool). found (firstSearch start target k true b m c)) (sym et ∙ g)
 
-    pub to-itself : at-target ≡ true → {r : Candidates} → r ≡ found (timeAllNoneAcc0Acc1 c start target k towards true) → r ≡ first
+    pub to-itself : at-target ≡ true → {r : Candidates} → r ≡ found (timeAllNoneAcc0Acc1 c start target k towards true)
+        → r ≡ first
     unfolding firstSearch
     to-itself g e =
         last-of-first (stageOf start target k true (towardsTarget k m) (none-acc0-acc1, given)) c
@@ -57,7 +65,7 @@ module _ (start : Start) (target : Target) (k : Constants) (m : Limits) (c : Can
     unfolding firstSearch
     to-rest g e = e ∙ ap (λ (m : Limits). found (resting start target k m c)) em ∙ sym (first-is g)
 
--- zero is the answer to the test of the limits
+-- zero is what the code finds of the limits
 module _ (input : Profile) (m : Limits) where
   abbrev k : Constants
   k = constantsOf (startOf input) (targetOf input) m
@@ -66,17 +74,29 @@ module _ (input : Profile) (m : Limits) where
   unfolding getProfileAnswer getProfile
   answer-by h = ap (λ (b : Bool). run passes (getProfileBy b input m)) h
 
-  pub single-step-is : hasZeroLimit m ≡ true → getProfileAnswer input m ≡ singleStepAnswer (startOf input) (run passes (timeAllSingleStep (boundaryFrom emptyProfile input) (startOf input) (targetOf input) k m))
+  pub single-step-is : hasZeroLimit m ≡ true
+      → getProfileAnswer input m ≡ singleStepAnswer (startOf input)
+      (run passes (timeAllSingleStep (boundaryFrom emptyProfile input) (startOf input) (targetOf input) k m))
   unfolding getProfileBy run
-  single-step-is h = answer-by h ∙ run-bind passes (timeAllSingleStep (boundaryFrom emptyProfile input) (startOf input) (targetOf input) k m) (λ d. done (singleStepAnswer (startOf input) d))
+  single-step-is h =
+      answer-by h ∙ run-bind passes (timeAllSingleStep (boundaryFrom emptyProfile input) (startOf input)
+      (targetOf input) k m) (λ d. done (singleStepAnswer (startOf input) d))
 
-  pub searched-is : hasZeroLimit m ≡ false → getProfileAnswer input m ≡ selectedFrom (found (tryFamilies (startOf input) (targetOf input) k m (freshList input)))
+  pub searched-is : hasZeroLimit m ≡ false
+      → getProfileAnswer input m ≡ selectedFrom (found (tryFamilies (startOf input) (targetOf input) k m
+      (freshList input)))
   unfolding getProfileBy run
-  searched-is h = answer-by h ∙ run-bind passes (tryFamilies (startOf input) (targetOf input) k m (freshList input)) (λ c. done (selectedFrom c))
+  searched-is h =
+      answer-by h ∙ run-bind passes (tryFamilies (startOf input) (targetOf input) k m (freshList input))
+      (λ c. done (selectedFrom c))
 
   module _ {zero : Bool} (ez : zero ≡ hasZeroLimit m) {r : Answer} where
-    pub single-step-answers : zero ≡ true → {d : Checked} → d ≡ run passes (timeAllSingleStep (boundaryFrom emptyProfile input) (startOf input) (targetOf input) k m) → r ≡ singleStepAnswer (startOf input) d → r ≡ getProfileAnswer input m
+    pub single-step-answers : zero ≡ true → {d : Checked}
+        → d ≡ run passes (timeAllSingleStep (boundaryFrom emptyProfile input) (startOf input) (targetOf input) k m)
+        → r ≡ singleStepAnswer (startOf input) d → r ≡ getProfileAnswer input m
     single-step-answers h ed er = er ∙ ap (singleStepAnswer (startOf input)) ed ∙ sym (single-step-is (sym ez ∙ h))
 
-    pub selection-answers : zero ≡ false → {c : Candidates} → c ≡ found (tryFamilies (startOf input) (targetOf input) k m (freshList input)) → r ≡ selected (slot c) (c .«current_index») → r ≡ getProfileAnswer input m
+    pub selection-answers : zero ≡ false → {c : Candidates}
+        → c ≡ found (tryFamilies (startOf input) (targetOf input) k m (freshList input))
+        → r ≡ selected (slot c) (c .«current_index») → r ≡ getProfileAnswer input m
     selection-answers h ec er = er ∙ ap selectedFrom ec ∙ sym (searched-is (sym ez ∙ h))

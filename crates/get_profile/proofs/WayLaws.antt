@@ -21,7 +21,14 @@ neg-twice (fin false m e) = refl
 -- limits swapped twice are as they were
 swapped-twice : (m : Limits) → swappedLimits (swappedLimits m) ≡ m
 unfolding swappedLimits
-swapped-twice m = λ i. record { «v_max» = m .«v_max»; «v_min» = m .«v_min»; «a_max» = m .«a_max»; «a_min» = m .«a_min»; «j_max» = neg-twice (m .«j_max») i }
+swapped-twice m =
+    λ i. record {
+      «v_max» = m .«v_max»;
+      «v_min» = m .«v_min»;
+      «a_max» = m .«a_max»;
+      «a_min» = m .«a_min»;
+      «j_max» = neg-twice (m .«j_max») i;
+    }
 
 pub way-of : (M m : Limits) (w : Way) → EitherWay M m → EitherWay M (limitsOf w m)
 way-of M m given d = d

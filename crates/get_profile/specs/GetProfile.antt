@@ -1,4 +1,5 @@
--- `get_profile` on a fresh planner and a fresh block: which families are tried for which move, in which order and up to where. Definitions only.
+-- `get_profile` on a fresh planner and a fresh block: which families are tried for which move, in which order and up to
+-- where. Definitions only.
 use mathlib.Core.Path.{_≡_}
 use mathlib.Core.Bool.{Bool, true, false, cond, _||_}
 use mathlib.Core.List.{List, [], _∷_, _++_}
@@ -18,7 +19,8 @@ use Rattle.phase_times.specs.TimeAllSingleStep.{startsMoving, startsAccelerated
 use Rattle.phase_times.specs.declared.constants.Constants.{Constants}
 use Rattle.trees.specs.Tree.{Tree, done, bind, run, AllNo}
 use Rattle.trees.specs.InTurn.{EachNo}
-use Rattle.candidates.specs.Try.{Try, passes}
+use Rattle.candidates.specs.Try.{passes}
+use Rattle.candidates.specs.declared.Try.{Try}
 use Rattle.candidates.specs.List.{slot, freshList}
 use Rattle.candidates.specs.declared.Candidates.{Candidates}
 use Rattle.position_third_step1.specs.CheckTree.{found}
@@ -47,7 +49,8 @@ module _ (start : Start) (target : Target) (k : Constants) where
   unfoldable pub twoStep : Limits → Family
   twoStep m = firstOf (stagesOf start target k true m twoStepOrder)
 
-  -- what is tried first: for a resting target in the direction of pf - p0 first; a rest that is its own target tries one family, once
+  -- what is tried first: for a resting target in the direction of pf - p0 first; a rest that is its own target tries
+  -- one family, once
   unfoldable pub firstSearch : (ends-at-rest rests-at-target : Bool) → Limits → Family
   firstSearch true true m c = firstOf (stagesOf start target k true (towardsTarget k m) itselfOrder) c
   firstSearch true false m c = resting (towardsTarget k m) c
@@ -63,7 +66,8 @@ unfoldable pub afterPassing : Start → Profile → Interval
 afterPassing start q = cond (startsMoving start || startsAccelerated start) (intervalFrom (duration q)) noInterval
 
 unfoldable pub singleStepAnswer : Start → Checked → Answer
-singleStepAnswer start d = cond (d .ok) (planned (blockOf (d .profile) (afterPassing start (d .profile)) noInterval)) (refused 4)
+singleStepAnswer start d =
+    cond (d .ok) (planned (blockOf (d .profile) (afterPassing start (d .profile)) noInterval)) (refused 4)
 
 -- of all others: selection among the profiles that were accepted
 abbrev pub selectedFrom : Candidates → Answer
@@ -72,14 +76,16 @@ selectedFrom c = selected (slot c) (c .«current_index»)
 unfoldable pub getProfileBy : (has-zero-limit : Bool) → Profile → Limits → Tree Try Bool Answer
 getProfileBy true input m =
     bind
-    (timeAllSingleStep (boundaryFrom emptyProfile input) (startOf input) (targetOf input) (constantsOf (startOf input) (targetOf input) m) m)
+    (timeAllSingleStep (boundaryFrom emptyProfile input) (startOf input) (targetOf input)
+    (constantsOf (startOf input) (targetOf input) m) m)
     (λ d. done (singleStepAnswer (startOf input) d))
 getProfileBy false input m =
     bind
     (tryFamilies (startOf input) (targetOf input) (constantsOf (startOf input) (targetOf input) m) m (freshList input))
     (λ c. done (selectedFrom c))
 
--- the checks that are made for a move with the start, the target and the durations of this profile, and the answer at their end
+-- the checks that are made for a move with the start, the target and the durations of this profile, and the answer at
+-- their end
 unfoldable pub getProfile : Profile → Limits → Tree Try Bool Answer
 getProfile input m = getProfileBy (hasZeroLimit m) input m
 
@@ -103,7 +109,8 @@ allTries input m =
     let target = targetOf input in
     let k = constantsOf start target m in
     cond (hasZeroLimit m) (singleStepTries start target k m)
-    (firstTries start target k (endsAtRest target) (restsAtTarget start k) m ++ stageTries start target k m twoStepOrder)
+    (firstTries start target k (endsAtRest target) (restsAtTarget start k) m
+    ++ stageTries start target k m twoStepOrder)
 
 -- the limits of a move as they are, or for the opposite direction
 abbrev pub EitherWay : Limits → Limits → Type 0
@@ -132,7 +139,9 @@ EachRefused input m = EachNo passes (allTries input m)
 
 -- what the families find
 abbrev pub foundFor : Profile → Limits → Candidates
-foundFor input m = found (tryFamilies (startOf input) (targetOf input) (constantsOf (startOf input) (targetOf input) m) m (freshList input))
+foundFor input m =
+    found (tryFamilies (startOf input) (targetOf input) (constantsOf (startOf input) (targetOf input) m) m
+    (freshList input))
 
 -- they are tried, exactly four profiles count at their end, and no removal rule applies
 pub record FourStay (input : Profile) (m : Limits) : Type 0 where

@@ -6,7 +6,7 @@ use Rattle.profile.specs.declared.Start.{Start}
 use Rattle.profile.specs.declared.Target.{Target}
 use Rattle.profile.specs.declared.Limits.{Limits}
 use Rattle.phase_times.specs.declared.constants.Constants.{Constants}
-use Rattle.candidates.specs.Try.{Try}
+use Rattle.candidates.specs.declared.Try.{Try}
 use Rattle.position_third_step1.specs.CheckTree.{tries}
 use Rattle.position_third_step1.specs.TimeAllVel.{allVelTries}
 use Rattle.position_third_step1.specs.TimeAcc0Acc1.{acc0Acc1Tries}

@@ -1,10 +1,12 @@
-// `get_profile` of position_third_step1.rs: which families are tried for a move, and what is selected of what they find.
+// `get_profile` of position_third_step1.rs: which families are tried for a move, and what is selected of what they
+// find.
 
 ghost use mathlib.Core.Path.{_≡_};
 ghost use Rattle.trees.specs.Tree.{run};
 ghost use Rattle.position_third_step1.specs.CheckTree.{found};
 ghost use Rattle.get_profile.specs.Choices.{endsAtRest, restsAtTarget};
-ghost use Rattle.get_profile.specs.GetProfile.{resting, moving, twoStep, towardsTarget, firstSearch, tryFamilies, afterPassing, singleStepAnswer, selectedFrom, getProfileAnswer};
+ghost use Rattle.get_profile.specs.GetProfile.{resting, moving, twoStep, towardsTarget, firstSearch, tryFamilies};
+ghost use Rattle.get_profile.specs.GetProfile.{afterPassing, singleStepAnswer, selectedFrom, getProfileAnswer};
 
 mod choices; // choices.rt: the conditions by which families and directions are chosen
 

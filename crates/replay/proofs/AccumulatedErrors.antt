@@ -8,13 +8,18 @@ use Rattle.doubles.specs.Signed.{Signed, Near}
 use Rattle.doubles.specs.Value.{Finite}
 use Rattle.doubles.proofs.SignedLaws.{near-refl}
 use Rattle.profile_rows.specs.declared.Row.{Row}
-use Rattle.replay.proofs.ExactMotion.{Phase, Stateˢ, nextRow, nextState, rowState, time, sizeA, sizeV, sizeP, underflowA, underflowV, underflowP, sumTo, timeTo, stateAt, errorA, errorV, errorP}
-use Rattle.replay.proofs.PhaseErrors.{MotionError, PositionError, PhaseFits, RowFits, MotionFinite, PhaseFinite, next-fits, before-finite, position-before-finite, motion-step, position-step}
+use Rattle.replay.proofs.ExactMotion.{Phase, Stateˢ, nextRow, nextState, rowState, time, sizeA, sizeV, sizeP}
+use Rattle.replay.proofs.ExactMotion.{underflowA, underflowV, underflowP, sumTo, timeTo, stateAt, errorA, errorV}
+use Rattle.replay.proofs.ExactMotion.{errorP}
+use Rattle.replay.proofs.PhaseErrors.{MotionError, PositionError, PhaseFits, RowFits, MotionFinite, PhaseFinite}
+use Rattle.replay.proofs.PhaseErrors.{next-fits, before-finite, position-before-finite, motion-step}
+use Rattle.replay.proofs.PhaseErrors.{position-step}
 
 widened : (x y : Signed) (e f : ℕ) → e ≤ f → Near x y e → Near x y f
 widened x y e f l n = record { low = omega (arith, n .low); high = omega (arith, n .high) }
 
-motion-widened : (r : Row) (s : Stateˢ) (ey ez fy fz : ℕ) → ey ≤ fy → ez ≤ fz → MotionError r s ey ez → MotionError r s fy fz
+motion-widened : (r : Row) (s : Stateˢ) (ey ez fy fz : ℕ) → ey ≤ fy → ez ≤ fz → MotionError r s ey ez
+    → MotionError r s fy fz
 motion-widened r s ey ez fy fz b c o = record { y = widened _ _ ey fy b (o .y); z = widened _ _ ez fz c (o .z) }
 
 -- an error of T, sa, sv, sp with a phase of t, la, lv, lp added is at most that of the sums
@@ -22,7 +27,8 @@ growth-y : (T t sa sv la lv : ℕ) → sv + 2 * T * sa + 2 * t * sa + lv ≤ sv 
 growth-y T t sa sv la lv = omega arith
 
 growth-x : (T t sa sv sp la lv lp : ℕ)
-    → sp + 3 * T * sv + 3 * (T * T) * sa + 3 * t * (sv + 2 * T * sa) + 3 * (t * t) * sa + lp ≤ sp + lp + 3 * (T + t) * (sv + lv) + 3 * ((T + t) * (T + t)) * (sa + la)
+    → sp + 3 * T * sv + 3 * (T * T) * sa + 3 * t * (sv + 2 * T * sa) + 3 * (t * t) * sa + lp
+    ≤ sp + lp + 3 * (T + t) * (sv + lv) + 3 * ((T + t) * (T + t)) * (sa + la)
 growth-x T t sa sv sp la lv lp = omega arith
 
 -- what holds at n, and at each number before one at which it holds, holds up to n
@@ -57,12 +63,17 @@ module _ (row : ℕ → Row) (h : ℕ → Phase) (N : ℕ) (k : RowsMade row h N
     phase-finite i l = previous-finite i l (motion-finite (suc i) l) .1
 
   pub position-finite : Finite (row N .p) → (i : ℕ) → i ≤ N → Finite (row i .p)
-  position-finite = descend (λ i. Finite (row i .p)) N (λ i l g. position-before-finite (h i) (row i) (subst (λ (r : Row). Finite (r .p)) (k .made i l) g))
+  position-finite =
+      descend (λ i. Finite (row i .p)) N
+      (λ i l g. position-before-finite (h i) (row i) (subst (λ (r : Row). Finite (r .p)) (k .made i l) g))
 
   -- ---- the errors at row n
-  pub motion-error : (n : ℕ) → n ≤ N → MotionFinite (row n) → MotionError (row n) (stateAt h (rowState (row 0)) n) (errorV row h n + 2 * timeTo h n * errorA row h n) (errorA row h n)
+  pub motion-error : (n : ℕ) → n ≤ N → MotionFinite (row n)
+      → MotionError (row n) (stateAt h (rowState (row 0)) n) (errorV row h n + 2 * timeTo h n * errorA row h n)
+      (errorA row h n)
   unfolding stateAt timeTo errorA errorV sumTo
-  motion-error zero l f = motion-widened (row 0) (rowState (row 0)) 0 0 _ _ zero-le zero-le (record { y = near-refl _; z = near-refl _ })
+  motion-error zero l f =
+      motion-widened (row 0) (rowState (row 0)) 0 0 _ _ zero-le zero-le (record { y = near-refl _; z = near-refl _ })
   motion-error (suc n) l f =
       let sa = errorA row h n in
       let sv = errorV row h n in
@@ -72,12 +83,15 @@ module _ (row : ℕ → Row) (h : ℕ → Phase) (N : ℕ) (k : RowsMade row h N
       let lv = sizeV (row n) (h n) + underflowV t in
       let s = stateAt h (rowState (row 0)) n in
       let f′ = subst (λ (r : Row). MotionFinite r) (k .made n l) f in
-      subst (λ (r : Row). MotionError r (nextState (h n) s) (sv + lv + 2 * (T + t) * (sa + la)) (sa + la)) (sym (k .made n l))
+      subst (λ (r : Row). MotionError r (nextState (h n) s) (sv + lv + 2 * (T + t) * (sa + la)) (sa + la))
+      (sym (k .made n l))
       (motion-widened (nextRow (h n) (row n)) (nextState (h n) s) _ _ _ _ (growth-y T t sa sv la lv) (le-refl (sa + la))
-      (motion-step (h n) (row n) s (sv + 2 * T * sa) sa (k .phases n l) (row-fits n (le-of-lt l)) f′ (motion-error n (le-of-lt l) (previous-finite n l f .0))))
+      (motion-step (h n) (row n) s (sv + 2 * T * sa) sa (k .phases n l) (row-fits n (le-of-lt l)) f′
+      (motion-error n (le-of-lt l) (previous-finite n l f .0))))
 
   pub position-error-at : (n : ℕ) → n ≤ N → MotionFinite (row n) → Finite (row n .p)
-      → PositionError (row n) (stateAt h (rowState (row 0)) n) (errorP row h n + 3 * timeTo h n * errorV row h n + 3 * (timeTo h n * timeTo h n) * errorA row h n)
+      → PositionError (row n) (stateAt h (rowState (row 0)) n)
+      (errorP row h n + 3 * timeTo h n * errorV row h n + 3 * (timeTo h n * timeTo h n) * errorA row h n)
   unfolding stateAt timeTo errorA errorV errorP sumTo
   position-error-at zero l f q = widened _ _ 0 _ zero-le (near-refl _)
   position-error-at (suc n) l f q =
@@ -94,7 +108,8 @@ module _ (row : ℕ → Row) (h : ℕ → Phase) (N : ℕ) (k : RowsMade row h N
       let q′ = subst (λ (r : Row). Finite (r .p)) (k .made n l) q in
       let l′ = le-of-lt l in
       let b = previous-finite n l f .0 in
-      subst (λ (r : Row). PositionError r (nextState (h n) s) (sp + lp + 3 * (T + t) * (sv + lv) + 3 * ((T + t) * (T + t)) * (sa + la))) (sym (k .made n l))
+      subst (λ (r : Row). PositionError r (nextState (h n) s)
+      (sp + lp + 3 * (T + t) * (sv + lv) + 3 * ((T + t) * (T + t)) * (sa + la))) (sym (k .made n l))
       (widened _ _ _ _ (growth-x T t sa sv sp la lv lp)
       (position-step (h n) (row n) s (sv + 2 * T * sa) sa (k .phases n l) (row-fits n l′) f′ (motion-error n l′ b)
       (sp + 3 * T * sv + 3 * (T * T) * sa) q′ (position-error-at n l′ b (position-before-finite (h n) (row n) q′))))

@@ -1,11 +1,12 @@
--- A phase of a profile in doubles and exactly. The exact state is kept in signed numbers as pairs, in which `omega` reasons, at the scales of the replay:
--- x, y, z are 6 U⁴ times the position, 2 U³ times the velocity, U² times the acceleration. Definitions for the proofs.
+-- A phase of a profile in doubles and exactly. The exact state is kept in signed numbers as pairs, in which `omega`
+-- reasons, at the scales of the replay: x, y, z are 6 U⁴ times the position, 2 U³ times the velocity, U² times the
+-- acceleration. Definitions for the proofs.
 use Prim.Native.Nat.{ℕ, zero, suc, _+_, _*_}
 use mathlib.Core.Bool.{Bool, cond}
 use lib.Ieee.{Float}
 use Rattle.doubles.specs.Signed.{Signed, _⊕_, _⊙_, size}
 use Rattle.doubles.specs.Value.{val}
-use Rattle.doubles.proofs.ErrorChain.{H}
+use Rattle.doubles.specs.Error.{H}
 use Rattle.profile_rows.specs.Rows.{rowAfter, storedIf}
 use Rattle.profile_rows.specs.declared.Row.{Row}
 use Rattle.replay.specs.Replay.{U}

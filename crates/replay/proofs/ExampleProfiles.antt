@@ -4,6 +4,8 @@ use mathlib.Core.List.{List}
 use lib.ListN.{replicate}
 use lib.Ieee.{Float, neg}
 use Rattle.doubles.specs.Constants.{0ᶠ, 1ᶠ}
+use Rattle.profile.specs.Boundary.{startOf, boundarySet, emptyProfile}
+use Rattle.profile.specs.With.{withPhases, withRows, withNames}
 use Rattle.profile.specs.declared.Profile.{Profile}
 use Rattle.profile.specs.declared.Target.{Target}
 use Rattle.profile.specs.declared.Direction.the-variants.{UP}
@@ -19,22 +21,8 @@ zeros k = replicate k 0ᶠ
 
 unfoldable pub ofNumbers : ReachedLimits → Target → (t sums j a v p : List Float) → Profile
 ofNumbers reached target t sums j a v p =
-    record {
-      t = t;
-      «t_sum» = sums;
-      j = j;
-      a = a;
-      v = v;
-      p = p;
-      brake = 0ᶠ;
-      accel = 0ᶠ;
-      pf = target .pf;
-      vf = target .vf;
-      af = target .af;
-      limits = reached;
-      direction = UP;
-      «control_signs» = UDDU;
-    }
+    let bounded = boundarySet (withPhases emptyProfile t sums j) (startOf emptyProfile) target in
+    withRows (withNames bounded reached UP UDDU) a v p
 
 -- from rest at 0, as it is put to the check
 unfoldable pub fromRest : List Float → Target → Profile

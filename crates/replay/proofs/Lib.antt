@@ -1,5 +1,4 @@
 -- The laws of `replay`.
-pub mod MachineDoubles
 pub mod ExactMotion
 pub mod RowErrors
 pub mod PhaseErrors

@@ -1,4 +1,5 @@
--- The replay's bound: every profile of which the check's tests hold ends at its target, within tolerance and allowance. Assumes nothing.
+-- The replay's bound: every profile of which the check's conditions hold ends at its target, within tolerance and
+-- allowance. Assumes nothing.
 use mathlib.Core.Path.{_≡_, refl}
 use Prim.Native.Nat.{ℕ, _+_, _*_, _^_, _≤_, _<_}
 use native.Mathlib.Nat.{le-refl, le-trans, le-of-eq, le-of-suc-le-suc, mul-le-mul-left}
@@ -13,26 +14,28 @@ use Rattle.doubles.specs.Exact.{scale}
 use Rattle.doubles.specs.Signed.{size}
 use Rattle.doubles.specs.Value.{value, val, Fits, Finite}
 use Rattle.doubles.proofs.OrderLaws.{le→atmost}
-use Rattle.doubles.proofs.DifferenceLaws.{Close}
+use Rattle.doubles.specs.Value.{Close}
 use Rattle.profile.specs.Tolerances.{pPrecision, vPrecision, aPrecision, tMax}
 use Rattle.profile.specs.Boundary.{startOf, targetOf}
 use Rattle.profile_rows.specs.Rows.{sums}
 use Rattle.profile.specs.declared.Profile.{Profile}
-use Rattle.profile_check.proofs.Accepted.{rowAt}
+use Rattle.profile_check.specs.Accepted.{rowAt}
 use Rattle.replay.specs.Replay.{U, replayed}
 use Rattle.replay.specs.Allowance.{underflow, positionAllowance, velocityAllowance, accelerationAllowance}
 use Rattle.replay.specs.Promise.{EndsMoving, EndsAt}
 use Rattle.replay.proofs.ExactMotion.{Phase, rowState, timeTo, stateAt, sumA, sumV, sumP}
 use Rattle.replay.proofs.PhaseErrors.{RowFits, MotionFinite, time-not-negative}
-use Rattle.replay.proofs.AccumulatedErrors.{RowsMade, row-fits, motion-finite, phase-finite, position-finite, motion-error, position-error-at}
+use Rattle.replay.proofs.AccumulatedErrors.{RowsMade, row-fits, motion-finite, phase-finite, position-finite}
+use Rattle.replay.proofs.AccumulatedErrors.{motion-error, position-error-at}
 use Rattle.replay.proofs.DurationBound.{Time, last-sum, duration-bound}
-use Rattle.replay.proofs.Underflow.{totalUnderflowX, totalUnderflowY, totalUnderflowZ, error-x-total, error-y-total, error-z-total}
+use Rattle.replay.proofs.Underflow.{totalUnderflowX, totalUnderflowY, totalUnderflowZ, error-x-total}
+use Rattle.replay.proofs.Underflow.{error-y-total, error-z-total}
 use Rattle.replay.proofs.IntegerReplay.{takenBy, phaseAt, SameState, same-replay, T-is, Sa-is, Sv-is, Sp-is}
 use Rattle.replay.proofs.TargetDistance.{close-1e-8, close-1e-10, at-most-from}
 
 -- ---- the facts of an accepted check that the bound rests on. Any doubles: that they are finite is proved
 
--- all but the tests of the position, for a longest duration up to 1e12
+-- all but the conditions on the position, for a longest duration up to 1e12
 pub record VelocityChecked (longest : Float) (q : Profile) (taken : ℕ → Bool) : Type 0 where
   -- each row is made of the one before, an acceleration that is a stored limit is taken, and no time is below 0
   pub rows : RowsMade (rowAt q) (phaseAt q taken) 7
@@ -102,13 +105,16 @@ module _ (q : Profile) (taken : ℕ → Bool) (n : (i : ℕ) → i < 7 → val (
   p₇ = sumP (rowAt q) (phaseAt q taken) 7
 
   module _ (e u : ℕ) where
-    position-allowed : u * (U * U * U) ≤ underflow → e ≤ p₇ + 3 * t₇ * v₇ + 3 * (t₇ * t₇) * a₇ + u * (U * U * U) → 1 * e ≤ positionAllowance q
+    position-allowed : u * (U * U * U) ≤ underflow → e ≤ p₇ + 3 * t₇ * v₇ + 3 * (t₇ * t₇) * a₇ + u * (U * U * U)
+        → 1 * e ≤ positionAllowance q
     unfolding positionAllowance
     position-allowed h l = rw (T-is q taken n, Sa-is q taken n, Sv-is q taken n, Sp-is q taken n) (omega arith)
 
-    velocity-allowed : 3 * u * (U * U * U) ≤ underflow → e ≤ v₇ + 2 * t₇ * a₇ + u * (U * U) → 3 * U * e ≤ velocityAllowance q
+    velocity-allowed : 3 * u * (U * U * U) ≤ underflow → e ≤ v₇ + 2 * t₇ * a₇ + u * (U * U)
+        → 3 * U * e ≤ velocityAllowance q
     unfolding velocityAllowance
-    velocity-allowed h l = rw (T-is q taken n, Sa-is q taken n, Sv-is q taken n) (omega (arith, mul-le-mul-left (3 * U) l))
+    velocity-allowed h l =
+        rw (T-is q taken n, Sa-is q taken n, Sv-is q taken n) (omega (arith, mul-le-mul-left (3 * U) l))
 
     acceleration-allowed : 6 * u * (U * U * U) ≤ underflow → e ≤ a₇ + u * U → 6 * (U * U) * e ≤ accelerationAllowance q
     unfolding accelerationAllowance
@@ -148,7 +154,8 @@ module _ (longest : Float) (q : Profile) (j-max : Float) (stored : ℕ → Bool)
     unfolding timeTo
     lasts =
         le-trans
-        (duration-bound (λ i. at (q .t) i) 6 is-time longest tMax (c .longest-fits) (c .longest-finite) (rw (last-sum (q .t)) (c .sum))
+        (duration-bound (λ i. at (q .t) i) 6 is-time longest tMax (c .longest-fits) (c .longest-finite)
+        (rw (last-sum (q .t)) (c .sum))
         (le→atmost binary64 longest tMax (c .longest-fits) tMax-fits (c .longest-finite) tMax-finite (c .longest-most)))
         (le-of-eq span-is)
 
@@ -161,9 +168,13 @@ module _ (longest : Float) (q : Profile) (j-max : Float) (stored : ℕ → Bool)
         let end = replayed (startOf q) j-max q stored 7 in
         let e = motion-error r h 7 (c .rows) 7 (le-refl 7) last-finite in
         record {
-          velocity = at-most-from (3 * U) (2 * (U * U)) (end .y) _ (at (q .v) 7) (q .vf) vPrecision _ _ (same .y) (omega arith) v-close (e .y)
+          velocity =
+              at-most-from (3 * U) (2 * (U * U)) (end .y) _ (at (q .v) 7) (q .vf) vPrecision _ _ (same .y)
+              (omega arith) v-close (e .y)
               (velocity-allowed q taken no-less _ (totalUnderflowY 7 span) below-y (error-y-total r h 7 span lasts));
-          acceleration = at-most-from (6 * (U * U)) U (end .z) _ (at (q .a) 7) (q .af) aPrecision _ _ (same .z) (omega arith) a-close (e .z)
+          acceleration =
+              at-most-from (6 * (U * U)) U (end .z) _ (at (q .a) 7) (q .af) aPrecision _ _ (same .z)
+              (omega arith) a-close (e .z)
               (acceleration-allowed q taken no-less _ (totalUnderflowZ 7) below-z (error-z-total r h 7 span lasts));
           finite = record {
             t = λ i l. is-time i l .finite;
@@ -183,8 +194,15 @@ module _ (longest : Float) (q : Profile) (j-max : Float) (stored : ℕ → Bool)
       let p-close = close-1e-8 (at (q .p) 7) (q .pf) (last-fits c .p) (k .pf-fits) (k .p-ends) in
       let e = position-error-at r h 7 (c .rows) 7 (le-refl 7) (last-finite c) (p-close .x-finite) in
       record {
-        position = at-most-from 1 (6 * (U * U * U)) (end .x) _ (at (q .p) 7) (q .pf) pPrecision _ _ (same c .x) (omega arith) p-close e
-            (position-allowed q taken (no-less c) _ (totalUnderflowX 7 span) below-x (error-x-total r h 7 span (lasts c)));
+        position =
+            at-most-from 1 (6 * (U * U * U)) (end .x) _ (at (q .p) 7) (q .pf) pPrecision _ _ (same c .x)
+            (omega arith) p-close e
+            (position-allowed q taken (no-less c) _ (totalUnderflowX 7 span) below-x
+            (error-x-total r h 7 span (lasts c)));
         moving = ends-moving c;
-        finite = record { p = λ i l. position-finite r h 7 (c .rows) (p-close .x-finite) i (le-of-suc-le-suc l); pf = p-close .y-finite };
+        finite =
+            record {
+              p = λ i l. position-finite r h 7 (c .rows) (p-close .x-finite) i (le-of-suc-le-suc l);
+              pf = p-close .y-finite;
+            };
       }

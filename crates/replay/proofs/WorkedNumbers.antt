@@ -1,5 +1,6 @@
--- Worked examples that hold the definitions from both sides: each term of the sums and of the allowances, what the replay makes of the acceleration, and where exactly
--- the promise ends. They are document 01's formulas with numbers put in. Assumes nothing.
+-- Worked examples that hold the definitions from both sides: each term of the sums and of the allowances, what the
+-- replay makes of the acceleration, and where exactly the promise ends. They are document 01's formulas with numbers
+-- put in. Assumes nothing.
 use mathlib.Core.Path.{_≡_, refl}
 use Prim.Native.Nat.{ℕ, zero, suc, _+_, _-_, _*_, _/_, _^_, _<_}
 use native.Mathlib.Nat.{not-le-of-lt, le-of-suc-le-suc}
@@ -12,15 +13,17 @@ use Rattle.doubles.specs.Operators.{_+ᶠ_, _-ᶠ_, -ᶠ_}
 use Rattle.doubles.specs.Constants.{0ᶠ, 1ᶠ}
 use Rattle.doubles.specs.Exact.{scale, exact}
 use Rattle.profile.specs.Tolerances.{pPrecision, aPrecision}
-use Rattle.profile.specs.Boundary.{startOf}
+use Rattle.profile.specs.Boundary.{startOf, withBoundary, emptyProfile}
+use Rattle.profile.specs.With.{withPhases, withRows, withNames}
 use Rattle.profile.specs.declared.Profile.{Profile}
 use Rattle.profile.specs.declared.ReachedLimits.the-variants.{Vel, None}
 use Rattle.profile_check.proofs.Accepted.{each-phase}
 use Rattle.replay.specs.Replay.{U, atStart, phase, zeroedIf, replacedIf, replayed}
-use Rattle.replay.specs.Allowance.{sumTo, underflow, T, Sa, Sv, Sp, positionAllowance, velocityAllowance, accelerationAllowance}
+use Rattle.replay.specs.Allowance.{sumTo, underflow, T, Sa, Sv, Sp, positionAllowance, velocityAllowance}
+use Rattle.replay.specs.Allowance.{accelerationAllowance}
 use Rattle.replay.specs.Promise.{EndsAt}
 use Rattle.replay.proofs.ExampleProfiles.{zeros, ofNumbers}
-use Rattle.replay.proofs.StoredLimits.{at1e50, past1e50}
+use Rattle.replay.specs.StoredLimits.{at1e50, past1e50}
 
 -- whole numbers as doubles
 abbrev n : ℕ → Float
@@ -29,8 +32,8 @@ n k = ofInt binary64 (pos k)
 abbrev -n : ℕ → Float
 -n k = neg (n k)
 
--- ---- a profile no two of whose numbers have the same size. No check made it: the definitions are of any profile. The times are multiples of 6, so that halves and
--- sixths are whole
+-- ---- a profile no two of whose numbers have the same size. No check made it: the definitions are of any profile. The
+-- times are multiples of 6, so that halves and sixths are whole
 unfoldable pub telling : Profile
 telling =
     ofNumbers Vel (record { pf = 0ᶠ; vf = 0ᶠ; af = 0ᶠ })
@@ -73,26 +76,33 @@ sp =
     + (113 + 79 * 78 + 43 * 78 ^ 2 / 2 + 17 * 78 ^ 3 / 6)
 
 -- on the scales of the definitions
-sums-worked : (T telling ≡ U * total) × (Sa telling ≡ U * U * sa) × (Sv telling ≡ 2 * (U * U * U) * sv) × (Sp telling ≡ 6 * (U * U * U * U) * sp)
-unfolding T Sa Sv Sp sumTo telling ofNumbers scale exact ofInt round neg
+sums-worked : (T telling ≡ U * total) × (Sa telling ≡ U * U * sa) × (Sv telling ≡ 2 * (U * U * U) * sv)
+    × (Sp telling ≡ 6 * (U * U * U * U) * sp)
+unfolding T Sa Sv Sp sumTo telling ofNumbers withPhases withRows withNames withBoundary emptyProfile scale exact ofInt
+    round neg
 sums-worked = (refl, refl, refl, refl)
 
 -- ---- its allowances, times 6 × 2 ^ 4346 and here 2 ^ 800 besides, which makes 1 of 2 ^ -800 and 2 ^ 750 of 2 ^ -50
-position-worked : 2 ^ 800 * positionAllowance telling ≡ 6 * 2 ^ 4346 * (2 ^ 750 * (sp + total * sv + total ^ 2 * sa / 2) + 1)
-unfolding positionAllowance underflow T Sa Sv Sp sumTo telling ofNumbers scale exact ofInt round neg
+position-worked : 2 ^ 800 * positionAllowance telling
+    ≡ 6 * 2 ^ 4346 * (2 ^ 750 * (sp + total * sv + total ^ 2 * sa / 2) + 1)
+unfolding positionAllowance underflow T Sa Sv Sp sumTo telling ofNumbers withPhases withRows withNames withBoundary
+    emptyProfile scale exact ofInt round neg
 position-worked = refl
 
 velocity-worked : 2 ^ 800 * velocityAllowance telling ≡ 6 * 2 ^ 4346 * (2 ^ 750 * (sv + total * sa) + 1)
-unfolding velocityAllowance underflow T Sa Sv sumTo telling ofNumbers scale exact ofInt round neg
+unfolding velocityAllowance underflow T Sa Sv sumTo telling ofNumbers withPhases withRows withNames withBoundary
+    emptyProfile scale exact ofInt round neg
 velocity-worked = refl
 
 acceleration-worked : 2 ^ 800 * accelerationAllowance telling ≡ 6 * 2 ^ 4346 * (2 ^ 750 * sa + 1)
-unfolding accelerationAllowance underflow Sa sumTo telling ofNumbers scale exact ofInt round neg
+unfolding accelerationAllowance underflow Sa sumTo telling ofNumbers withPhases withRows withNames withBoundary
+    emptyProfile scale exact ofInt round neg
 acceleration-worked = refl
 
 -- ---- its accelerations in the replay, after each phase: z, times U²
 abbrev accelerations : (j-max : Float) (stored : ℕ → Bool) → List ℤ
-accelerations j-max stored = map (λ i. replayed (startOf telling) j-max telling stored i .z) (1 ∷ 2 ∷ 3 ∷ 4 ∷ 5 ∷ 6 ∷ 7 ∷ [])
+accelerations j-max stored =
+    map (λ i. replayed (startOf telling) j-max telling stored i .z) (1 ∷ 2 ∷ 3 ∷ 4 ∷ 5 ∷ 6 ∷ 7 ∷ [])
 
 abbrev z : ℕ → ℤ
 z k = pos (U * U * k)
@@ -100,16 +110,19 @@ z k = pos (U * U * k)
 abbrev -z : ℕ → ℤ
 -z k = negℤ (z k)
 
--- up to 1e50, where a limit is stored in every row: only row 3's zero is put in; so it is above, where none is stored. Above, where one is stored in every row: after
--- phase i row i + 1's, also in place of row 3's zero; and where one is stored in row 3 alone
+-- up to 1e50, where a limit is stored in every row: only row 3's zero is put in; so it is above, where none is stored.
+-- Above, where one is stored in every row: after phase i row i + 1's, also in place of row 3's zero; and where one is
+-- stored in row 3 alone
 taken-worked : (accelerations at1e50 (λ i. true) ≡ z 31 ∷ -z 5 ∷ z 0 ∷ -z 210 ∷ z 252 ∷ -z 606 ∷ z 720 ∷ [])
     × (accelerations past1e50 (λ i. false) ≡ z 31 ∷ -z 5 ∷ z 0 ∷ -z 210 ∷ z 252 ∷ -z 606 ∷ z 720 ∷ [])
     × (accelerations past1e50 (λ i. true) ≡ -z 23 ∷ z 29 ∷ z 31 ∷ -z 37 ∷ z 41 ∷ z 43 ∷ -z 47 ∷ [])
     × (accelerations past1e50 (λ i. eqb i 3) ≡ z 31 ∷ -z 5 ∷ z 31 ∷ -z 179 ∷ z 283 ∷ -z 575 ∷ z 751 ∷ [])
-unfolding replayed atStart phase zeroedIf replacedIf telling ofNumbers scale exact ofInt ofBits round neg lib.Ieee.lt
+unfolding replayed atStart phase zeroedIf replacedIf telling ofNumbers withPhases withRows withNames withBoundary
+    emptyProfile scale exact ofInt ofBits round neg lib.Ieee.lt
 taken-worked = (refl, refl, refl, refl)
 
--- ---- the border of the promise. With no time at all the replay ends where it started, and the rows' sums are those of their sizes
+-- ---- the border of the promise. With no time at all the replay ends where it started, and the rows' sums are those of
+-- their sizes
 -- 2 ^ -k
 abbrev 2⁻ : ℕ → Float
 2⁻ k = fin false 1 (negsuc (k - 1))
@@ -128,7 +141,8 @@ resting =
     let a = farA ∷ (2⁻ 33 -ᶠ farA) ∷ zeros 6 in
     ofNumbers None (record { pf = 0ᶠ; vf = 0ᶠ; af = 0ᶠ }) (zeros 7) (zeros 7) (zeros 7) a p p
 
--- so 1e-8 + 2 ^ -76 + 2 ^ -800 is allowed, the same, and 1e-10 + 2 ^ -83 + 2 ^ -800: exactly what the end is from -(2 ^ -800)
+-- so 1e-8 + 2 ^ -76 + 2 ^ -800 is allowed, the same, and 1e-10 + 2 ^ -83 + 2 ^ -800: exactly what the end is from -(2 ^
+-- -800)
 abbrev edge : Float
 edge = -ᶠ 2⁻ 800
 
@@ -144,7 +158,9 @@ each-row P a b c d e f g h zero l = a
 each-row P a b c d e f g h (suc i) l = each-phase (λ i. P (suc i)) b c d e f g h i (le-of-suc-le-suc l)
 
 pub at-the-edge : Ends resting edge edge edge
-unfolding positionAllowance velocityAllowance accelerationAllowance underflow T Sa Sv Sp sumTo replayed atStart phase zeroedIf replacedIf resting ofNumbers scale exact ofInt ofBits round add sub neg lib.Ieee.lt
+unfolding positionAllowance velocityAllowance accelerationAllowance underflow T Sa Sv Sp sumTo replayed atStart phase
+    zeroedIf replacedIf resting ofNumbers withPhases withRows withNames withBoundary emptyProfile scale exact ofInt
+    ofBits round add sub neg lib.Ieee.lt
 at-the-edge =
     record {
       position = lit≤ tt;
@@ -164,15 +180,18 @@ at-the-edge =
     }
 
 pub position-over : Ends resting over edge edge → ⊥
-unfolding positionAllowance underflow T Sa Sv Sp sumTo replayed atStart phase zeroedIf replacedIf resting ofNumbers scale exact ofInt ofBits round add sub neg lib.Ieee.lt
+unfolding positionAllowance underflow T Sa Sv Sp sumTo replayed atStart phase zeroedIf replacedIf resting ofNumbers
+    withPhases withRows withNames withBoundary emptyProfile scale exact ofInt ofBits round add sub neg lib.Ieee.lt
 position-over e = not-le-of-lt (lit< tt) (e .position)
 
 pub velocity-over : Ends resting edge over edge → ⊥
-unfolding velocityAllowance underflow T Sa Sv sumTo replayed atStart phase zeroedIf replacedIf resting ofNumbers scale exact ofInt ofBits round add sub neg lib.Ieee.lt
+unfolding velocityAllowance underflow T Sa Sv sumTo replayed atStart phase zeroedIf replacedIf resting ofNumbers
+    withPhases withRows withNames withBoundary emptyProfile scale exact ofInt ofBits round add sub neg lib.Ieee.lt
 velocity-over e = not-le-of-lt (lit< tt) (e .moving .velocity)
 
 pub acceleration-over : Ends resting edge edge over → ⊥
-unfolding accelerationAllowance underflow Sa sumTo replayed atStart phase zeroedIf replacedIf resting ofNumbers scale exact ofInt ofBits round add sub neg lib.Ieee.lt
+unfolding accelerationAllowance underflow Sa sumTo replayed atStart phase zeroedIf replacedIf resting ofNumbers
+    withPhases withRows withNames withBoundary emptyProfile scale exact ofInt ofBits round add sub neg lib.Ieee.lt
 acceleration-over e = not-le-of-lt (lit< tt) (e .moving .acceleration)
 
 -- ---- all that is read is finite: an infinity in the last place of a list, or in the target, breaks the promise
@@ -182,14 +201,15 @@ abbrev ∞ : Float
 -- zeros but for the last number of the times, jerks, accelerations, velocities or positions
 abbrev lastly : (t j a v p : Float) → Profile
 lastly t j a v p =
-    ofNumbers None (record { pf = 0ᶠ; vf = 0ᶠ; af = 0ᶠ }) (zeros 6 ++ (t ∷ [])) (zeros 7) (zeros 6 ++ (j ∷ [])) (zeros 7 ++ (a ∷ [])) (zeros 7 ++ (v ∷ [])) (zeros 7 ++ (p ∷ []))
+    ofNumbers None (record { pf = 0ᶠ; vf = 0ᶠ; af = 0ᶠ }) (zeros 6 ++ (t ∷ [])) (zeros 7) (zeros 6 ++ (j ∷ []))
+    (zeros 7 ++ (a ∷ [])) (zeros 7 ++ (v ∷ [])) (zeros 7 ++ (p ∷ []))
 
 pub infinite-row : (Ends (lastly ∞ 0ᶠ 0ᶠ 0ᶠ 0ᶠ) 0ᶠ 0ᶠ 0ᶠ → ⊥)
     × (Ends (lastly 0ᶠ ∞ 0ᶠ 0ᶠ 0ᶠ) 0ᶠ 0ᶠ 0ᶠ → ⊥)
     × (Ends (lastly 0ᶠ 0ᶠ ∞ 0ᶠ 0ᶠ) 0ᶠ 0ᶠ 0ᶠ → ⊥)
     × (Ends (lastly 0ᶠ 0ᶠ 0ᶠ ∞ 0ᶠ) 0ᶠ 0ᶠ 0ᶠ → ⊥)
     × (Ends (lastly 0ᶠ 0ᶠ 0ᶠ 0ᶠ ∞) 0ᶠ 0ᶠ 0ᶠ → ⊥)
-unfolding ofNumbers
+unfolding ofNumbers withPhases withRows withNames withBoundary emptyProfile
 infinite-row = (
   λ e. e .moving .finite .t 6 (lit< tt),
   λ e. e .moving .finite .j 6 (lit< tt),

@@ -14,7 +14,8 @@ sumTo (suc n) f = sumTo n f + f n
 unfoldable pub underflow : ℕ
 underflow = 6 * 2 ^ (4346 - 800)
 
--- ---- the sums over seven phases, row i with phase i. Below, t, j, a, v, p are U times the size of the number that they name; an accepted time is not below 0
+-- ---- the sums over seven phases, row i with phase i. Below, t, j, a, v, p are U times the size of the number that
+-- they name; an accepted time is not below 0
 module _ (q : Profile) where
   abbrev t : ℕ → ℕ
   t i = exactSize (at (q .t) i)
@@ -45,7 +46,9 @@ module _ (q : Profile) where
 
   -- of |p| + |v|t + |a|t²/2 + |j|t³/6, times 6 U⁴
   unfoldable pub Sp : ℕ
-  Sp = sumTo 7 (λ i. 6 * (U * U * U) * p i + 6 * (U * U) * v i * t i + 3 * U * a i * (t i * t i) + j i * (t i * t i * t i))
+  Sp =
+      sumTo 7
+      (λ i. 6 * (U * U * U) * p i + 6 * (U * U) * v i * t i + 3 * U * a i * (t i * t i) + j i * (t i * t i * t i))
 
   -- ---- the allowances, times 6 × 2 ^ 4346, which is 2 ^ 50 × 6 U⁴
   -- 2 ^ -50 × (Sp + T·Sv + T²·Sa/2), plus 2 ^ -800

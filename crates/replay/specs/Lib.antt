@@ -1,4 +1,6 @@
--- The definitions of `replay`: what document 01's "Replay" and "Rounding allowance" say, and what is promised of an accepted profile.
+-- The definitions of `replay`: what document 01's "Replay" and "Rounding allowance" say, and what is promised of an
+-- accepted profile.
 pub mod Replay
 pub mod Allowance
 pub mod Promise
+pub mod StoredLimits

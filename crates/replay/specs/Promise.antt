@@ -1,4 +1,5 @@
--- What is promised of the replay's end: how far it is from the target. Every whole number here is 6 × 2 ^ 4346 times what it stands for. Definitions only.
+-- What is promised of the replay's end: how far it is from the target. Every whole number here is 6 × 2 ^ 4346 times
+-- what it stands for. Definitions only.
 use Prim.Native.Nat.{ℕ, _+_, _*_, _^_, _≤_, _<_}
 use mathlib.Core.Path.{_≡_}
 use mathlib.Core.Bool.{Bool, true}
@@ -35,7 +36,8 @@ accelerationOf s = pos (2 ^ 50 * (6 * (U * U))) *ℤ s .z
 
 -- e is at most a tolerance plus an allowance from the double d
 abbrev pub AtMostFrom : (d tolerance : Float) (allowance : ℕ) (e : ℤ) → Type 0
-AtMostFrom d tolerance allowance e = natAbs (e -ℤ pos fromExact *ℤ exact d) ≤ fromExact * exactSize tolerance + allowance
+AtMostFrom d tolerance allowance e =
+    natAbs (e -ℤ pos fromExact *ℤ exact d) ≤ fromExact * exactSize tolerance + allowance
 
 -- ---- what is read of a profile and a target is finite: `exact` takes other numbers for 0
 
@@ -60,7 +62,8 @@ module _ (start : Start) (target : Target) (j-max : Float) (q : Profile) (stored
   abbrev end : State
   end = replayed start j-max q stored 7
 
-  -- y is at most 1e-8 plus the velocity allowance from vf, z at most 1e-10 plus the acceleration allowance from af: all that is said of a move to no position
+  -- y is at most 1e-8 plus the velocity allowance from vf, z at most 1e-10 plus the acceleration allowance from af: all
+  -- that is said of a move to no position
   pub record EndsMoving : Type 0 where
     pub velocity : AtMostFrom (target .vf) vPrecision (velocityAllowance q) (velocityOf end)
     pub acceleration : AtMostFrom (target .af) aPrecision (accelerationAllowance q) (accelerationOf end)

@@ -12,7 +12,7 @@ use Rattle.roots.specs.List.{rootsOf}
 use Rattle.phase_times.specs.Constants.{constantsOf}
 use Rattle.get_profile.specs.Choices.{hasZeroLimit, endsAtRest}
 use Rattle.phase_times.specs.declared.constants.Constants.{Constants}
-use Rattle.candidates.specs.Try.{Try}
+use Rattle.candidates.specs.declared.Try.{Try}
 use Rattle.candidates.specs.List.{freshList}
 use Rattle.candidates.specs.declared.Candidates.{Candidates}
 use Rattle.position_third_step1.specs.CheckTree.{found, tries}
@@ -25,13 +25,17 @@ use Rattle.planner.specs.Answers.{inputOf}
 use Rattle.planner.specs.declared.Move.{Move}
 
 -- what a polynomial's tries find, where its roots are known
-pub by-roots : (start : Start) (target : Target) (k : Constants) (m : Limits) (s : RootTries) (c : Candidates) (xs : List Try) {roots : List Float} {d : Candidates}
-    → rootsOf (s .roots) ≡ roots → found (tries false c (triesFor start target k m s roots xs)) ≡ d → found (tries false c (rootTries start target k m s xs)) ≡ d
-by-roots start target k m s c xs e h = ap (λ (l : List Float). found (tries false c (triesFor start target k m s l xs))) e ∙ h
+pub by-roots : (start : Start) (target : Target) (k : Constants) (m : Limits) (s : RootTries) (c : Candidates)
+    (xs : List Try) {roots : List Float} {d : Candidates}
+    → rootsOf (s .roots) ≡ roots → found (tries false c (triesFor start target k m s roots xs)) ≡ d
+    → found (tries false c (rootTries start target k m s xs)) ≡ d
+by-roots start target k m s c xs e h =
+    ap (λ (l : List Float). found (tries false c (triesFor start target k m s l xs))) e ∙ h
 
 -- selection among what all families in both directions find
 pub moving-answer : (x : Move) {c : Candidates} → hasZeroLimit (x .limits) ≡ false → endsAtRest (x .target) ≡ false
-    → c ≡ found (moving (x .start) (x .target) (constantsOf (x .start) (x .target) (x .limits)) (x .limits) (freshList (inputOf x)))
+    → c ≡ found (moving (x .start) (x .target) (constantsOf (x .start) (x .target) (x .limits)) (x .limits)
+    (freshList (inputOf x)))
     → 0 < c .«current_index»
     → getProfileAnswer (inputOf x) (x .limits) ≡ selectedFrom c
 unfolding tryFamilies withBoundary emptyProfile

@@ -4,13 +4,15 @@ use lib.Ieee.{ofBits, toBits, neg}
 use Rattle.block.specs.Blocks.{refused}
 use Rattle.planner.specs.Answers.{finiteStart, finiteMove, answerOf}
 use Rattle.decimals.specs.Decimal.{decimal}
-use Rattle.moves.specs.Records.{double, startOf, targetOf, limitsOf, moveOf, isMalformed, recordOf}
+use Rattle.planner.specs.Layout.{moveOf}
+use Rattle.moves.specs.Records.{double, recordMove, isMalformed, recordOf}
 use Rattle.moves.specs.Lines.{refusalFields, answerFields, lineOf}
 use Rattle.shop_checks.specs.Records.{recordBytes}
 use Rattle.shop_checks.specs.WorkedMoves.{RefusedRecords}
 
 pub refused-records : RefusedRecords
-unfolding recordBytes recordOf isMalformed moveOf startOf targetOf limitsOf double lineOf answerFields refusalFields decimal answerOf finiteMove finiteStart refused toBits ofBits neg
+unfolding recordBytes recordOf isMalformed recordMove moveOf double lineOf answerFields refusalFields decimal answerOf
+    finiteMove finiteStart refused toBits ofBits neg
 refused-records =
     record {
       cut = refl;

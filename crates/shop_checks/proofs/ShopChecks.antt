@@ -6,10 +6,12 @@ use lib.Ieee.{ofBits, toBits, add, sub, mul, div, neg, lt, le, eq}
 use Rattle.encoding.specs.Encoding.{hexDigit}
 use Rattle.doubles.specs.Functions.{absᶠ}
 use Rattle.profile.specs.Boundary.{withBoundary, emptyProfile}
+use Rattle.profile.specs.With.{withPhases}
 use Rattle.profile.specs.Limits.{swappedLimits, directionOf, boundsOf}
 use Rattle.profile_lines.specs.Fields.{hex, doubleFields}
 use Rattle.profile_rows.specs.Rows.{sums, jerkIf, jerks, rowAfter, storedIf, outerRow, middleRow, rowsOf}
-use Rattle.profile_check.specs.Check.{timesPass, phasesPass, sumPasses, zeroPasses, zerosPass, endPasses, rowsPass, accepted, filled, checked}
+use Rattle.profile_check.specs.Check.{timesPass, phasesPass, sumPasses, zeroPasses, zerosPass, endPasses, rowsPass}
+use Rattle.profile_check.specs.Check.{accepted, filled, checked}
 use Rattle.elementary.specs.Functions.{sqrtOf, cbrtOf, thirdAngleCosineOf, thirdAngleSineOf}
 use Rattle.roots.specs.List.{inserted, placed, sortedFrom, ascendingOf}
 use Rattle.roots.specs.Quartic.{withQuadratic, quarticOf}
@@ -19,29 +21,36 @@ use Rattle.candidates.specs.List.{stored, added, freshList}
 use Rattle.candidates.specs.Try.{passes, profileOf}
 use Rattle.phase_times.specs.Constants.{constantsOf}
 use Rattle.get_profile.specs.Choices.{hasZeroLimit, endsAtRest, pointsUp, restsAtTarget}
-use Rattle.phase_times.specs.TimeAllSingleStep.{changesAcceleration, startsAccelerated, startsMoving, startsAtTarget, timesAtConstantSpeed}
+use Rattle.phase_times.specs.TimeAllSingleStep.{changesAcceleration, startsAccelerated, startsMoving, startsAtTarget}
+use Rattle.phase_times.specs.TimeAllSingleStep.{timesAtConstantSpeed}
 use Rattle.phase_times.specs.TimeAllVel.{t3Acc0Acc1Vel, timesAcc0Acc1Vel}
 use Rattle.phase_times_quartic.specs.CorrectionAcc1.{correctedAcc1}
 use Rattle.phase_times_quartic.specs.Quartic.{shiftedQuartic, hasSolution}
 use Rattle.phase_times_quartic.specs.RootRange.{isSkipped}
-use Rattle.phase_times_quartic.specs.TimeAcc0.{h0Acc0, h3Acc0, h2Acc0, rangeAcc0, polynomAcc0, newtonAcc0, correctedAcc0, timesAcc0}
+use Rattle.phase_times_quartic.specs.TimeAcc0.{h0Acc0, h3Acc0, h2Acc0, rangeAcc0, polynomAcc0, newtonAcc0}
+use Rattle.phase_times_quartic.specs.TimeAcc0.{correctedAcc0, timesAcc0}
 use Rattle.phase_times_quartic.specs.TimeAcc1.{h0Acc1, h3Acc1, h2Acc1, polynomAcc1, rangeAcc1, timesAcc1}
 use Rattle.phase_times_quartic.specs.TimeNone.{h2None, polynomNone, newtonNone, correctedNone, rangeNone, timesNone}
 use Rattle.phase_times_two_step.specs.ScaledRoot.{scaledRoot}
 use Rattle.phase_times_two_step.specs.TimeNoneTwoStep.{noneTwoStepRadicand, timesNoneTwoStep, timesNoneSingleStep}
 use Rattle.position_third_step1.specs.CheckTree.{onlyIf}
-use Rattle.position_third_step1.specs.TimeAllNoneAcc0Acc1.{rootsIf, noneRoots, acc0Roots, acc1Roots, reachedBy, timesBy, triesFor, noneAcc0Acc1Tries}
+use Rattle.position_third_step1.specs.TimeAllNoneAcc0Acc1.{rootsIf, noneRoots, acc0Roots, acc1Roots, reachedBy, timesBy}
+use Rattle.position_third_step1.specs.TimeAllNoneAcc0Acc1.{triesFor, noneAcc0Acc1Tries}
 use Rattle.position_third_step1.specs.TimeAllSingleStep.{singleStepTries, acceptance}
 use Rattle.position_third_step1.specs.TimeAllVel.{allVelTries}
 use Rattle.position_third_step1.specs.TwoStep.{noneTwoStepTries}
-use Rattle.block.specs.Blocks.{total, duration, noInterval, intervalFrom, intervalBetween, blockOf, emptyBlock, planned, refused, isBlocked, blockingOf}
+use Rattle.block.specs.Blocks.{total, duration, noInterval, intervalFrom, intervalBetween, blockOf, emptyBlock, planned}
+use Rattle.block.specs.Blocks.{refused, isBlocked, blockingOf}
 use Rattle.block.specs.Selection.{near, ofTwo, selected}
 use Rattle.get_profile.specs.Families.{unlessFound, firstOf}
-use Rattle.get_profile.specs.GetProfile.{towardsTarget, resting, twoStep, firstSearch, tryFamilies, afterPassing, singleStepAnswer, getProfileBy, getProfile, getProfileAnswer}
-use Rattle.planner.specs.Answers.{finiteStart, finiteTarget, finiteLimits, finiteMove, wrongSign, wrongDuration, answerOf}
+use Rattle.get_profile.specs.GetProfile.{towardsTarget, resting, twoStep, firstSearch, tryFamilies, afterPassing}
+use Rattle.get_profile.specs.GetProfile.{singleStepAnswer, getProfileBy, getProfile, getProfileAnswer}
+use Rattle.planner.specs.Answers.{finiteStart, finiteTarget, finiteLimits, finiteMove, wrongSign, wrongDuration}
+use Rattle.planner.specs.Answers.{answerOf}
 use Rattle.planner.specs.declared.Move.{Move}
 use Rattle.decimals.specs.Decimal.{decimal}
-use Rattle.moves.specs.Records.{double, startOf, targetOf, limitsOf, moveOf, isMalformed, recordOf}
+use Rattle.planner.specs.Layout.{moveOf}
+use Rattle.moves.specs.Records.{double, recordMove, isMalformed, recordOf}
 use Rattle.moves.specs.Lines.{stretchFields, planFields, refusalFields, answerFields, lineOf}
 use Rattle.moves.specs.Replies.{replyOf}
 use Rattle.moves.specs.declared.Record.the-variants.{Whole}
@@ -49,11 +58,26 @@ use Rattle.shop_checks.specs.Records.{recordBytes}
 use Rattle.shop_checks.specs.ShopChecks.{ShopChecks, move-1, move-2, move-2-down, move-3, move-4}
 
 -- the record's bytes are read as the move, whose answer has that line
-by-move : (n : ℕ) (x : Move) {line : List ℕ} → recordOf (recordBytes x) ≡ Whole x → lineOf n (answerOf x) ≡ line → replyOf lineOf n (recordOf (recordBytes x)) ≡ line
+by-move : (n : ℕ) (x : Move) {line : List ℕ} → recordOf (recordBytes x) ≡ Whole x → lineOf n (answerOf x) ≡ line
+    → replyOf lineOf n (recordOf (recordBytes x)) ≡ line
 by-move n x e h = ap (replyOf lineOf n) e ∙ h
 
 pub shop-checks : ShopChecks
-unfolding recordBytes recordOf isMalformed moveOf startOf targetOf limitsOf double lineOf answerFields planFields refusalFields stretchFields decimal doubleFields hex hexDigit answerOf finiteMove finiteStart finiteTarget finiteLimits wrongSign wrongDuration withBoundary emptyProfile getProfileAnswer getProfile getProfileBy hasZeroLimit tryFamilies firstSearch endsAtRest restsAtTarget pointsUp towardsTarget resting twoStep firstOf unlessFound run bind inTurn answered onlyIf added stored freshList profileOf filled swappedLimits constantsOf noneAcc0Acc1Tries noneRoots rootsIf h2None polynomNone rangeNone triesFor reachedBy timesBy isSkipped timesNone correctedNone newtonNone acc0Roots h0Acc0 h2Acc0 h3Acc0 polynomAcc0 rangeAcc0 shiftedQuartic hasSolution timesAcc0 correctedAcc0 newtonAcc0 acc1Roots h0Acc1 h2Acc1 h3Acc1 polynomAcc1 rangeAcc1 timesAcc1 correctedAcc1 noneTwoStepTries noneTwoStepRadicand scaledRoot timesNoneTwoStep timesNoneSingleStep allVelTries t3Acc0Acc1Vel timesAcc0Acc1Vel singleStepTries changesAcceleration startsAccelerated startsMoving startsAtTarget timesAtConstantSpeed acceptance singleStepAnswer afterPassing selected ofTwo near total duration planned refused blockOf emptyBlock noInterval intervalFrom intervalBetween blockingOf isBlocked checked passes accepted timesPass phasesPass sumPasses zeroPasses zerosPass endPasses rowsPass sums jerkIf jerks rowAfter storedIf outerRow middleRow rowsOf boundsOf directionOf quarticOf withQuadratic inserted ascendingOf sortedFrom placed sqrtOf cbrtOf thirdAngleCosineOf thirdAngleSineOf ofBits add sub mul div neg lt le eq absᶠ toBits
+unfolding recordBytes recordOf isMalformed recordMove moveOf double lineOf answerFields planFields refusalFields
+    stretchFields decimal doubleFields hex hexDigit answerOf finiteMove finiteStart finiteTarget finiteLimits wrongSign
+    wrongDuration withBoundary withPhases emptyProfile getProfileAnswer getProfile getProfileBy hasZeroLimit tryFamilies
+    firstSearch endsAtRest restsAtTarget pointsUp towardsTarget resting twoStep firstOf unlessFound run bind inTurn
+    answered onlyIf added stored freshList profileOf filled swappedLimits constantsOf noneAcc0Acc1Tries noneRoots
+    rootsIf h2None polynomNone rangeNone triesFor reachedBy timesBy isSkipped timesNone correctedNone newtonNone
+    acc0Roots h0Acc0 h2Acc0 h3Acc0 polynomAcc0 rangeAcc0 shiftedQuartic hasSolution timesAcc0 correctedAcc0 newtonAcc0
+    acc1Roots h0Acc1 h2Acc1 h3Acc1 polynomAcc1 rangeAcc1 timesAcc1 correctedAcc1 noneTwoStepTries noneTwoStepRadicand
+    scaledRoot timesNoneTwoStep timesNoneSingleStep allVelTries t3Acc0Acc1Vel timesAcc0Acc1Vel singleStepTries
+    changesAcceleration startsAccelerated startsMoving startsAtTarget timesAtConstantSpeed acceptance singleStepAnswer
+    afterPassing selected ofTwo near total duration planned refused blockOf emptyBlock noInterval intervalFrom
+    intervalBetween blockingOf isBlocked checked passes accepted timesPass phasesPass sumPasses zeroPasses zerosPass
+    endPasses rowsPass sums jerkIf jerks rowAfter storedIf outerRow middleRow rowsOf boundsOf directionOf quarticOf
+    withQuadratic inserted ascendingOf sortedFrom placed sqrtOf cbrtOf thirdAngleCosineOf thirdAngleSineOf ofBits add
+    sub mul div neg lt le eq absᶠ toBits
 shop-checks =
     record {
       line-1 = by-move 1 move-1 refl refl;

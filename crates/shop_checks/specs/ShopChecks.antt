@@ -10,6 +10,7 @@ use Rattle.roots.specs.Resolvent.{sin120}
 use Rattle.roots.specs.Quartic.{quarticOf}
 use Rattle.profile.specs.Tolerances.{tMax}
 use Rattle.profile.specs.Boundary.{emptyProfile}
+use Rattle.profile.specs.With.{withTimes}
 use Rattle.profile.specs.declared.Profile.{Profile}
 use Rattle.profile.specs.declared.Limits.{Limits}
 use Rattle.profile.specs.declared.ControlSigns.the-variants.{UDDU}
@@ -60,23 +61,7 @@ ones = record { «v_max» = 1ᶠ; «v_min» = neg 1ᶠ; «a_max» = 1ᶠ; «a_mi
 
 -- rest at 0 that is its own target, with the time t in phase 3: else the empty profile
 abbrev pub resting : Float → Profile
-resting t =
-    record {
-      t = 0ᶠ ∷ 0ᶠ ∷ 0ᶠ ∷ t ∷ 0ᶠ ∷ 0ᶠ ∷ 0ᶠ ∷ [];
-      «t_sum» = emptyProfile .«t_sum»;
-      j = emptyProfile .j;
-      a = emptyProfile .a;
-      v = emptyProfile .v;
-      p = emptyProfile .p;
-      brake = emptyProfile .brake;
-      accel = emptyProfile .accel;
-      pf = emptyProfile .pf;
-      vf = emptyProfile .vf;
-      af = emptyProfile .af;
-      limits = emptyProfile .limits;
-      direction = emptyProfile .direction;
-      «control_signs» = emptyProfile .«control_signs»;
-    }
+resting t = withTimes emptyProfile (0ᶠ ∷ 0ᶠ ∷ 0ᶠ ∷ t ∷ 0ᶠ ∷ 0ᶠ ∷ 0ᶠ ∷ [])
 
 -- numbers that only these lines have: the double after 1e12, 1 + 2^-50, 1 + 2^-49, and others
 abbrev pub afterTMax : Float
@@ -101,7 +86,8 @@ pub record ShopChecks : Type 0 where
   -- ● these four moves: from the bytes of each record to the bytes of its line
   pub line-1 : replyOf lineOf 1 (recordOf (recordBytes move-1)) ≡ ascii "1 ok 0000000000000000 UP None 0\n"
   pub line-2 : replyOf lineOf 2 (recordOf (recordBytes move-2)) ≡ ascii "2 ok 4018000000000000 UP Vel 0\n"
-  pub line-3 : replyOf lineOf 3 (recordOf (recordBytes move-3)) ≡ ascii "3 ok 4008000000000000 UP None 1 4008000000000000 7FF0000000000000\n"
+  pub line-3 : replyOf lineOf 3 (recordOf (recordBytes move-3))
+      ≡ ascii "3 ok 4008000000000000 UP None 1 4008000000000000 7FF0000000000000\n"
   pub line-4 : replyOf lineOf 4 (recordOf (recordBytes move-4)) ≡ ascii "4 refused 4\n"
   -- ● pf -4 for 4: 6 s, DOWN, Vel
   pub line-2-down : replyOf lineOf 2 (recordOf (recordBytes move-2-down)) ≡ ascii "2 ok 4018000000000000 DOWN Vel 0\n"
@@ -128,6 +114,8 @@ pub record ShopChecks : Type 0 where
   pub longest-rest : checked (resting tMax) UDDU Vel false 1ᶠ ones .ok ≡ true
   pub longer-rest : checked (resting afterTMax) UDDU Vel false 1ᶠ ones .ok ≡ false
   -- ● totals 1 + 2^-50 then 1: the first, no stretch
-  pub near-pair : selected (slot (taking near1 ∷ taking 1ᶠ ∷ [])) 2 ≡ planned (blockOf (taking near1) noInterval noInterval)
+  pub near-pair : selected (slot (taking near1 ∷ taking 1ᶠ ∷ [])) 2
+      ≡ planned (blockOf (taking near1) noInterval noInterval)
   -- ● 1 and 1 + 2^-49: a stretch
-  pub far-pair : selected (slot (taking 1ᶠ ∷ taking past1 ∷ [])) 2 ≡ planned (blockOf (taking 1ᶠ) (record { stretch = Between 1ᶠ past1; profile = taking past1 }) noInterval)
+  pub far-pair : selected (slot (taking 1ᶠ ∷ taking past1 ∷ [])) 2
+      ≡ planned (blockOf (taking 1ᶠ) (record { stretch = Between 1ᶠ past1; profile = taking past1 }) noInterval)

@@ -1,4 +1,5 @@
--- Moves that show what the promise of demand 3 is about, and in which order moves and records are turned back. Definitions only.
+-- Moves that show what the promise of demand 3 is about, and in which order moves and records are turned back.
+-- Definitions only.
 use mathlib.Core.Path.{_≡_}
 use mathlib.Core.List.{[], _∷_, _++_}
 use lib.ListN.{take, set}
@@ -32,7 +33,8 @@ pub record PromiseApplies : Type 0 where
   pub move-2-accepted : answerOf move-2 .refusal ≡ 0
   pub passing-accepted : answerOf passing .refusal ≡ 0
   pub passing-blocked : answerOf passing .block .a .stretch ≡ Between 3ᶠ 6ᶠ
-  -- one plan for every move breaks it: that of move 1, the boundary with zero times, on move 2, and that of move 2 on move 1
+  -- one plan for every move breaks it: that of move 1, the boundary with zero times, on move 2, and that of move 2 on
+  -- move 1
   pub staying-breaks-it : Promise move-2 (answerOf move-1) → ⊥
   pub leaving-breaks-it : Promise move-1 (answerOf move-2) → ⊥
 
@@ -66,7 +68,8 @@ pub record RefusalsInOrder : Type 0 where
   pub none-accepted : answerOf move-4 ≡ refused 4
   pub four-accepted : answerOf turning ≡ refused 5
 
--- refusal 8, also of a record whose numbers are wrong: the input ends after 106 bytes or after one, the length is 104, the version 2. No byte is no record, and a byte
+-- refusal 8, also of a record whose numbers are wrong: the input ends after 106 bytes or after one, the length is 104,
+-- the version 2. No byte is no record, and a byte
 -- behind a whole one isn't read
 pub record RefusedRecords : Type 0 where
   pub cut : replyOf lineOf 1 (recordOf (take 106 (recordBytes move-4))) ≡ ascii "1 refused 8\n"

@@ -1,4 +1,5 @@
-// Document 01's shop checks, and worked moves and records beside them, as contracts: no code. All are proved by computation.
+// Document 01's shop checks, and worked moves and records beside them, as contracts: no code. All are proved by
+// computation.
 
 ghost use Rattle.shop_checks.specs.ShopChecks.{ShopChecks};
 ghost use Rattle.shop_checks.specs.WorkedMoves.{PromiseApplies, RefusalsInOrder, RefusedRecords};

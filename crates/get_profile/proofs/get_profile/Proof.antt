@@ -6,14 +6,33 @@ use Rattle.get_profile.proofs.get_profile.Tie as tie
 
 returns : tie.Need-returns
 returns c =
-    single-step-answers _ _ (c .before .before .before .before .before .has-zero-limit .ensures) (c .before .before .before .before .if1 .taken) {d = c .before .time-all-single-step .result}
-    (rw (← c .before .before .before .empty .ensures, ← c .before .before .with-boundary-from-profile .ensures, ← c .before .before .before .before .before .before .before .before .start .ensures, ← c .before .before .before .before .before .before .before .target .ensures, ← c .before .before .before .before .before .before .new .ensures) (c .before .time-all-single-step .ensures))
-    (rw (← c .before .before .before .before .before .before .before .before .start .ensures) (c .single-step-answer .ensures))
+    let zero-limit = c .before .before .before .before in
+    let constants = zero-limit .before .before in
+    let start = constants .before .before in
+    single-step-answers _ _ (zero-limit .before .has-zero-limit .ensures) (zero-limit .if1 .taken)
+    {d = c .before .time-all-single-step .result}
+    (rw (
+      ← c .before .before .before .empty .ensures,
+      ← c .before .before .with-boundary-from-profile .ensures,
+      ← start .start .ensures,
+      ← constants .before .target .ensures,
+      ← constants .new .ensures,
+    ) (c .before .time-all-single-step .ensures))
+    (rw (← start .start .ensures) (c .single-step-answer .ensures))
 
 returns-2 : tie.Need-returns-2
 returns-2 c =
-    selection-answers _ _ (c .before .before .before .before .before .has-zero-limit .ensures) (c .before .before .before .before .if1 .left) {c = c .before .before .try-families .result}
-    (rw (← c .before .before .before .before .before .before .before .before .start .ensures, ← c .before .before .before .before .before .before .before .target .ensures, ← c .before .before .before .before .before .before .new .ensures, ← c .before .before .before .new2 .ensures) (c .before .before .try-families .ensures))
+    let no-zero-limit = c .before .before .before .before in
+    let constants = no-zero-limit .before .before in
+    let start = constants .before .before in
+    selection-answers _ _ (no-zero-limit .before .has-zero-limit .ensures) (no-zero-limit .if1 .left)
+    {c = c .before .before .try-families .result}
+    (rw (
+      ← start .start .ensures,
+      ← constants .before .target .ensures,
+      ← constants .new .ensures,
+      ← c .before .before .before .new2 .ensures,
+    ) (c .before .before .try-families .ensures))
     (c .calculate-block .ensures)
 
 pub get-profile-spec : {M : Type 1} → statement M

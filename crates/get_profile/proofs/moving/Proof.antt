@@ -7,10 +7,12 @@ use Rattle.get_profile.proofs.moving.Tie as tie
 
 returns : tie.Need-returns
 returns c =
-    moves _ _ _ _ (c .before .before .before .before .before .before .swapped .ensures) _
-    (each-on _ _ _ (c .before .before .before .before .before .time-all-none-acc0-acc1 .ensures)
-    (each-on _ _ _ (c .before .before .before .before .time-all-none-acc0-acc12 .ensures)
-    (each-on _ _ _ (c .before .before .before .time-acc0-acc1 .ensures)
+    let in-given = c .before .before .before in
+    let none-tried = in-given .before .before in
+    moves _ _ _ _ (none-tried .before .swapped .ensures) _
+    (each-on _ _ _ (none-tried .time-all-none-acc0-acc1 .ensures)
+    (each-on _ _ _ (in-given .before .time-all-none-acc0-acc12 .ensures)
+    (each-on _ _ _ (in-given .time-acc0-acc1 .ensures)
     (each-on _ _ _ (c .before .before .time-acc0-acc12 .ensures)
     (each-on _ _ _ (c .before .time-all-vel .ensures)
     (last-of-each _ _ (c .time-all-vel2 .ensures)))))))

@@ -6,7 +6,12 @@ use Rattle.get_profile.proofs.single_step_answer.Tie as tie
 
 returns : tie.Need-returns
 unfolding singleStepAnswer
-returns c = rw (c .before .before .before .before .if1 .taken, ← c .before .before .after-passing .ensures, ← c .before .none .ensures) (c .planned .ensures)
+returns c =
+    rw (
+      c .before .before .before .before .if1 .taken,
+      ← c .before .before .after-passing .ensures,
+      ← c .before .none .ensures,
+    ) (c .planned .ensures)
 
 returns-2 : tie.Need-returns-2
 unfolding singleStepAnswer

@@ -11,7 +11,9 @@ returns c = first-finds _ _ _ (c .before .before .first-search .ensures) (c .if1
 
 returns-2 : tie.Need-returns-2
 unfolding tryFamilies
-returns-2 c = first-fails _ _ _ (c .before .before .before .first-search .ensures) (c .before .if1 .left) (last-of-first _ _ (c .two-step .ensures))
+returns-2 c =
+    first-fails _ _ _ (c .before .before .before .first-search .ensures) (c .before .if1 .left)
+    (last-of-first _ _ (c .two-step .ensures))
 
 pub try-families-spec : {M : Type 1} → statement M
 try-families-spec = tie.close (tie.spec (λ c κs. search needs) returns (λ c κs. search needs) returns-2)

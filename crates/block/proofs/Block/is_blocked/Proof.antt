@@ -13,16 +13,32 @@ returns c = says _ _ _ (rw (← c .before .is-finite .ensures, not-true (c .befo
 returns-2 : tie.Need-returns-2
 unfolding blockingOf isBlocked
 returns-2 c =
-    let finite-time = c .before .before .before .before .before .before in
-    let test = finite-time .before .is-finite in
-    says _ _ _ (rw (← test .ensures, not-false (test .result) (finite-time .if1 .left), ← c .before .before .contains .ensures, ← c .before .contains2 .ensures, c .if2 .taken))
+    let intervals-read = c .before .before .before in
+    let finite-time = intervals-read .before .before .before in
+    let asked = finite-time .before .is-finite in
+    says _ _ _
+    (rw (
+      ← asked .ensures,
+      not-false (asked .result) (finite-time .if1 .left),
+      ← c .before .before .contains .ensures,
+      ← c .before .contains2 .ensures,
+      c .if2 .taken,
+    ))
 
 returns-3 : tie.Need-returns-3
 unfolding blockingOf isBlocked
 returns-3 c =
-    let finite-time = c .before .before .before .before .before .before in
-    let test = finite-time .before .is-finite in
-    says _ _ _ (rw (← test .ensures, not-false (test .result) (finite-time .if1 .left), ← c .before .before .contains .ensures, ← c .before .contains2 .ensures, c .if2 .left))
+    let intervals-read = c .before .before .before in
+    let finite-time = intervals-read .before .before .before in
+    let asked = finite-time .before .is-finite in
+    says _ _ _
+    (rw (
+      ← asked .ensures,
+      not-false (asked .result) (finite-time .if1 .left),
+      ← c .before .before .contains .ensures,
+      ← c .before .contains2 .ensures,
+      c .if2 .left,
+    ))
 
 pub is-blocked-spec : {M : Type 1} → statement M
 is-blocked-spec =

@@ -10,4 +10,6 @@ returns-3 : tie.Need-returns-3
 returns-3 c = rw (c .before .self2 .given .1)
 
 pub contains-spec : {M : Type 1} → statement M
-contains-spec = tie.close (tie.spec (λ c. search needs) (λ c. search needs) (λ c. search needs) (λ c. search needs) returns-2 returns-3)
+contains-spec =
+    tie.close (tie.spec (λ c. search needs) (λ c. search needs) (λ c. search needs)
+    (λ c. search needs) returns-2 returns-3)

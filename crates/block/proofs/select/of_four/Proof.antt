@@ -12,7 +12,10 @@ returns c = rw (← c .before .before .removal .ensures, eq-eqb _ _ (c .before .
 
 returns-2 : tie.Need-returns-2
 unfolding ofFour
-returns-2 c = four-made _ (c .before .before .before .removal .ensures) (c .before .before .if1 .left) (c .before .remove-profile .ensures) (c .of-three .ensures)
+returns-2 c =
+    let removes = c .before .before in
+    four-made _ (removes .before .removal .ensures) (removes .if1 .left) (c .before .remove-profile .ensures)
+    (c .of-three .ensures)
 
 pub of-four-spec : {M : Type 1} → statement M
 of-four-spec =

@@ -9,15 +9,14 @@ use Rattle.block_test.proofs.lines.line.Tie as tie
 returns : tie.Need-returns
 unfolding lineOf
 returns c =
-    let p = rw (
-      c .before .before .before .before .before .before .before .before .before .before .before .selected-of .ensures,
-      c .before .before .before .before .given-of .ensures,
-    ) at
+    let given-read = c .before .before .before .before in
+    let selected-put = given-read .before .before in
+    let answer-put = selected-put .before .before in
+    let p = rw (answer-put .before .before .before .selected-of .ensures, given-read .given-of .ensures) at
     (then
-    (then (then
-    (c .before .before .before .before .before .before .before .before .put-answer .ensures)
-    (c .before .before .before .before .before .before .put-blockings .ensures))
-    (c .before .before .before .put-blockings2 .ensures)) (c .put .ensures)) in
+    (then (then (answer-put .put-answer .ensures) (selected-put .put-blockings .ensures))
+    (c .before .before .before .put-blockings2 .ensures))
+    (c .put .ensures)) in
     (p, counted (omega arith) p)
 
 pub line-spec : {M : Type 1} → statement M

@@ -9,16 +9,17 @@ use Rattle.block_test.proofs.lines.put_answer.Tie as tie
 
 returns : tie.Need-returns
 unfolding answerText
-returns c = rw (eq-eqb _ _ (c .before .before .before .before .before .if1 .taken)) (c .before .before .put-block .ensures)
+returns c =
+    let at-call = c .before .before .before in
+    rw (eq-eqb _ _ (at-call .before .before .if1 .taken)) (c .before .before .put-block .ensures)
 
 returns-2 : tie.Need-returns-2
 unfolding answerText
 returns-2 c =
-    rw (ne-eqb _ _
-    (c .before .before .before .before .before .before .before .before .before .if1 .left))
-    (within (omega arith) (then
-    (c .before .before .before .before .before .before .put .ensures)
-    (c .before .before .put-number .ensures)))
+    let word-put = c .before .before .before .before in
+    let at-word = word-put .before .before .before in
+    rw (ne-eqb _ _ (at-word .before .before .if1 .left))
+    (within (omega arith) (then (word-put .before .before .put .ensures) (c .before .before .put-number .ensures)))
 
 pub put-answer-spec : {M : Type 1} → statement M
 put-answer-spec =

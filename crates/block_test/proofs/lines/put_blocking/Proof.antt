@@ -6,13 +6,19 @@ use Rattle.block_test.proofs.lines.put_blocking.Statement.{statement}
 use Rattle.block_test.proofs.lines.put_blocking.Tie as tie
 
 returns : tie.Need-returns
-returns c = rw (c .before .before .before .before .before .enum-told .given .1) (within (omega arith) (c .before .before .put .ensures))
+returns c =
+    let at-call = c .before .before .before in
+    rw (at-call .before .before .enum-told .given .1) (within (omega arith) (c .before .before .put .ensures))
 
 returns-2 : tie.Need-returns-2
-returns-2 c = rw (c .before .before .before .before .before .enum-told2 .given .1) (within (omega arith) (c .before .before .put2 .ensures))
+returns-2 c =
+    let at-call = c .before .before .before in
+    rw (at-call .before .before .enum-told2 .given .1) (within (omega arith) (c .before .before .put2 .ensures))
 
 returns-3 : tie.Need-returns-3
-returns-3 c = rw (c .before .before .before .before .before .enum-told3 .given .1) (within (omega arith) (c .before .before .put3 .ensures))
+returns-3 c =
+    let at-call = c .before .before .before in
+    rw (at-call .before .before .enum-told3 .given .1) (within (omega arith) (c .before .before .put3 .ensures))
 
 pub put-blocking-spec : {M : Type 1} → statement M
 put-blocking-spec =

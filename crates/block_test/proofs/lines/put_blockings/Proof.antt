@@ -6,15 +6,21 @@ use borrow.Author.Needs.{needs}
 use Rattle.block_test.proofs.lines.put_blockings.Statement.{statement}
 use Rattle.block_test.proofs.lines.put_blockings.Tie as tie
 
+-- said: what is said of a time is known; put: it is written
 put-blocking-requires-4 : tie.Need-put-blocking-requires-4
 put-blocking-requires-4 c κs =
-    let d = c .before .before .before .before .before .before .before .before .before .before .before .before .before .before in
-    let p = then (then
-    (d .before .before .before .before .before .before .put-blocking .ensures)
-    (c .before .before .before .before .before .before .before .before .before .before .before .before .before .put-blocking2 .ensures))
-    (c .before .before .before .before .before .before .put-blocking3 .ensures) in omega (
+    let third-put = c .before .before .before .before in
+    let third-said = third-put .before .before .before in
+    let second-put = third-said .before .before .before .before in
+    let second-said = second-put .before .before .before in
+    let first-put = second-said .before .before .before .before in
+    let first-said = first-put .before .before .before in
+    let at-entry = first-said .before .before .before .before in
+    let p = then
+    (then (first-put .before .before .put-blocking .ensures) (second-put .before .before .put-blocking2 .ensures))
+    (third-put .before .before .put-blocking3 .ensures) in omega (
       arith,
-      d .before .before .before .before .before .before .before .before .before .before .before .before .pre,
+      at-entry .before .pre,
       p .behind,
       p .within,
       p .same,
@@ -23,22 +29,27 @@ put-blocking-requires-4 c κs =
 returns : tie.Need-returns
 unfolding blockingFields
 returns c =
-    let d = c .before .before .before .before .before .before .before .before .before .before .before .before .before .before in
+    let fourth-said = c .before .before .before in
+    let third-put = fourth-said .before .before .before .before in
+    let third-said = third-put .before .before .before in
+    let second-put = third-said .before .before .before .before in
+    let second-said = second-put .before .before .before in
+    let first-put = second-said .before .before .before .before in
+    let first-said = first-put .before .before .before in
     rw (
-      d .before .before .before .before .before .before .before .before .before .before .is-blocked .ensures .answer,
-      d .before .before .before .is-blocked2 .ensures .answer,
-      c .before .before .before .before .before .before .before .before .before .before .is-blocked3 .ensures .answer,
-      c .before .before .before .is-blocked4 .ensures .answer,
-      d .before .before .before .before .before .before .before .before .before .before .before .double-at .ensures,
-      d .before .before .before .before .double-at2 .ensures,
-      c .before .before .before .before .before .before .before .before .before .before .before .double-at3 .ensures,
-      c .before .before .before .before .double-at4 .ensures,
+      first-said .is-blocked .ensures .answer,
+      second-said .is-blocked2 .ensures .answer,
+      third-said .is-blocked3 .ensures .answer,
+      fourth-said .is-blocked4 .ensures .answer,
+      first-said .before .double-at .ensures,
+      second-said .before .double-at2 .ensures,
+      third-said .before .double-at3 .ensures,
+      fourth-said .before .double-at4 .ensures,
     ) at
     (then
-    (then (then
-    (d .before .before .before .before .before .before .before .before .before .put-blocking .ensures)
-    (d .before .before .put-blocking2 .ensures))
-    (c .before .before .before .before .before .before .before .before .before .put-blocking3 .ensures))
+    (then
+    (then (first-put .before .before .put-blocking .ensures) (second-put .before .before .put-blocking2 .ensures))
+    (third-put .before .before .put-blocking3 .ensures))
     (c .before .before .put-blocking4 .ensures))
 
 pub put-blockings-spec : {M : Type 1} → statement M

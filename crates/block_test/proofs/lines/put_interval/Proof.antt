@@ -8,9 +8,9 @@ use Rattle.block_test.proofs.lines.put_interval.Tie as tie
 returns : tie.Need-returns
 unfolding intervalFields
 returns c =
-    then (then
-    (c .before .before .before .before .before .before .before .before .before .before .put-kind .ensures)
-    (c .before .before .before .before .before .before .put-both-ends .ensures))
+    let ends-put = c .before .before .before .before in
+    let kind-put = ends-put .before .before .before .before in
+    then (then (kind-put .before .before .put-kind .ensures) (ends-put .before .before .put-both-ends .ensures))
     (c .before .before .put-double .ensures)
 
 pub put-interval-spec : {M : Type 1} → statement M

@@ -7,11 +7,12 @@ use Rattle.block_test.proofs.records.interval_at.Tie as tie
 returns : tie.Need-returns
 unfolding intervalAt
 returns c =
+    let ends-read = c .before .before .before .before in
     rw (
       c .before .stretch-of .ensures,
       c .before .before .byte-at .ensures .0,
-      c .before .before .before .before .before .before .double-at .ensures,
-      c .before .before .before .before .double-at2 .ensures,
+      ends-read .before .before .double-at .ensures,
+      ends-read .double-at2 .ensures,
       c .empty .ensures,
     )
 

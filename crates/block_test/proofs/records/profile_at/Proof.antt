@@ -1,17 +1,19 @@
 -- `block_test::records::profile_at` meets its contract. Assumes nothing.
-use Rattle.profile.specs.Boundary.{emptyProfile}
+use Rattle.profile.specs.Boundary.{emptyProfile, withBoundary}
+use Rattle.profile.specs.With.{withPhases, withNames}
 use Rattle.block_test.specs.Records.{profileAt}
 use borrow.Author.Needs.{needs}
 use Rattle.block_test.proofs.records.profile_at.Statement.{statement}
 use Rattle.block_test.proofs.records.profile_at.Tie as tie
 
 returns : tie.Need-returns
-unfolding profileAt emptyProfile
+unfolding profileAt emptyProfile withPhases withNames withBoundary
 returns c =
+    let direction-read = c .before .before .before .before in
     rw (
-      c .before .before .before .before .direction-of .ensures,
-      c .before .before .before .before .before .byte-at .ensures .0,
-      c .before .before .before .before .before .before .before .double-at .ensures,
+      direction-read .direction-of .ensures,
+      direction-read .before .byte-at .ensures .0,
+      direction-read .before .before .before .double-at .ensures,
       c .before .before .double-at2 .ensures,
       c .double-at3 .ensures,
     )

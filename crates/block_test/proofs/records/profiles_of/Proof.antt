@@ -7,10 +7,11 @@ use Rattle.block_test.proofs.records.profiles_of.Tie as tie
 returns : tie.Need-returns
 unfolding profilesOf
 returns c =
+    let third-read = c .before .before .before in
     rw (
-      c .before .before .before .before .before .profile-at .ensures,
-      c .before .before .before .before .profile-at2 .ensures,
-      c .before .before .before .profile-at3 .ensures,
+      third-read .before .before .profile-at .ensures,
+      third-read .before .profile-at2 .ensures,
+      third-read .profile-at3 .ensures,
       c .before .before .profile-at4 .ensures,
       c .before .profile-at5 .ensures,
       c .profile-at6 .ensures,

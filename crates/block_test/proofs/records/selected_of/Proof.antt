@@ -6,7 +6,8 @@ use Rattle.block_test.proofs.records.selected_of.Tie as tie
 
 returns : tie.Need-returns
 unfolding selectedOf
-returns c = rw (c .calculate-block .ensures, c .before .before .before .profiles-of .ensures, c .before .byte-at .ensures .0)
+returns c =
+    rw (c .calculate-block .ensures, c .before .before .before .profiles-of .ensures, c .before .byte-at .ensures .0)
 
 pub selected-of-spec : {M : Type 1} → statement M
 selected-of-spec = tie.close (tie.spec (λ c κs. search needs) (λ c κs. search needs) (λ c κs. search needs) returns)
