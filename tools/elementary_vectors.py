@@ -134,14 +134,21 @@ def shown(x):
     return "7FF8000000000000" if x != x else "%016X" % to_bits(x)
 
 
+def stored():
+    """What the two files hold."""
+    words = arguments()
+    lines = []
+    for x in map(of_bits, words):
+        cosine, sine = cosine_and_sine(x) if x == x else (x, x)
+        lines.append(" ".join(shown(y) for y in (sqrt(x), cbrt(x), cosine, sine)) + "\n")
+    return struct.pack(f">{len(words)}Q", *words), "".join(lines).encode("ascii")
+
+
 def main():
     folder = os.path.join(os.path.dirname(os.path.abspath(__file__)), "..", "crates", "elementary_test")
-    with open(os.path.join(folder, "stdin"), "wb") as records, open(os.path.join(folder, "stdout"), "w") as lines:
-        for bits in arguments():
-            x = of_bits(bits)
-            cosine, sine = cosine_and_sine(x) if x == x else (x, x)
-            records.write(struct.pack(">Q", bits))
-            lines.write(" ".join(shown(y) for y in (sqrt(x), cbrt(x), cosine, sine)) + "\n")
+    for name, content in zip(("stdin", "stdout"), stored()):
+        with open(os.path.join(folder, name), "wb") as file:
+            file.write(content)
 
 
 if __name__ == "__main__":

@@ -33,7 +33,7 @@ def cube_root(x):
     return math.copysign(float(Decimal(abs(x)) ** (Decimal(1) / 3)), x) if x else x
 
 
-def cosine_pair(t):
+def third_angle_pair(t):
     if abs(t) == 1:
         return (1.0, 0.0) if t > 0 else (0.5, float(Decimal(3).sqrt() / 2))
     c = Decimal(math.cos(math.acos(t) / 3))
@@ -51,7 +51,7 @@ def resolvent(a, b, c, tests):
     q3 = q * q * q
     if r2 < q3:
         q_sqrt = square_root(q)
-        cosine, sine = cosine_pair(max(min(divide(r, q * q_sqrt), 1.0), -1.0))
+        cosine, sine = third_angle_pair(max(min(divide(r, q * q_sqrt), 1.0), -1.0))
         ux, uyi = cosine * (-2 * q_sqrt), sine * (-2 * q_sqrt)
         x1 = ux * -0.5 - uyi * 0.8660254037844386 - a
         return 3, [ux - a, x1, ux * -0.5 + uyi * 0.8660254037844386 - a]

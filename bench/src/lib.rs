@@ -8,13 +8,13 @@ mod archive {
     extern "C" {
         pub fn girnhusk_sqrt(x: f64) -> f64;
         pub fn girnhusk_cbrt(x: f64) -> f64;
-        pub fn girnhusk_cosine(t: f64) -> f64;
-        pub fn girnhusk_sine(t: f64) -> f64;
-        pub fn girnhusk_cosine_pair(t: f64, cosine: &mut f64, sine: &mut f64);
+        pub fn girnhusk_third_angle_cosine(t: f64) -> f64;
+        pub fn girnhusk_third_angle_sine(t: f64) -> f64;
+        pub fn girnhusk_third_angle_pair(t: f64, cosine: &mut f64, sine: &mut f64);
         pub fn girnhusk_sqrt_by_digits(x: f64) -> f64;
         pub fn girnhusk_cbrt_by_digits(x: f64) -> f64;
-        pub fn girnhusk_cosine_by_digits(t: f64) -> f64;
-        pub fn girnhusk_sine_by_digits(t: f64) -> f64;
+        pub fn girnhusk_third_angle_cosine_by_digits(t: f64) -> f64;
+        pub fn girnhusk_third_angle_sine_by_digits(t: f64) -> f64;
     }
 }
 
@@ -34,20 +34,20 @@ macro_rules! safe {
 safe! {
     sqrt = girnhusk_sqrt;
     cbrt = girnhusk_cbrt;
-    cosine = girnhusk_cosine;
-    sine = girnhusk_sine;
+    third_angle_cosine = girnhusk_third_angle_cosine;
+    third_angle_sine = girnhusk_third_angle_sine;
     sqrt_by_digits = girnhusk_sqrt_by_digits;
     cbrt_by_digits = girnhusk_cbrt_by_digits;
-    cosine_by_digits = girnhusk_cosine_by_digits;
-    sine_by_digits = girnhusk_sine_by_digits;
+    third_angle_cosine_by_digits = girnhusk_third_angle_cosine_by_digits;
+    third_angle_sine_by_digits = girnhusk_third_angle_sine_by_digits;
 }
 
 /// The archive's cosine and sine of a third of the angle, together.
 #[inline]
-pub fn cosine_pair(t: f64) -> (f64, f64) {
+pub fn third_angle_pair(t: f64) -> (f64, f64) {
     let (mut cosine, mut sine) = (0.0, 0.0);
     // SAFETY: proved to be defined for every number; it writes the two numbers lent and nothing else.
-    unsafe { archive::girnhusk_cosine_pair(t, &mut cosine, &mut sine) };
+    unsafe { archive::girnhusk_third_angle_pair(t, &mut cosine, &mut sine) };
     (cosine, sine)
 }
 

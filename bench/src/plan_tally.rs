@@ -2,7 +2,8 @@
 
 use crate::plans::{self, PLAN_LENGTH};
 use crate::same;
-use answers::{Move, Plan, Step1, LIMITS};
+use answers::{Limits, Move, Plan, Step1, LIMITS, MOVE_LENGTH};
+use programs::buffers::WRONG_LENGTH;
 use programs::random::nudged;
 use std::collections::BTreeMap;
 use step1_exact::Choice;
@@ -158,21 +159,30 @@ fn durations_of_interest(plan: &Plan) -> Vec<f64> {
     durations
 }
 
-/// What is wrong where lengths are: 9, and nothing written, whatever the numbers are.
+/// What is wrong where lengths are: `WRONG_LENGTH`, and nothing written, whatever the numbers are.
 pub fn wrong_lengths() -> Vec<String> {
-    let asked = [0.0, 0.0, 0.0, 4.0, 0.0, 0.0, 1.0, -1.0, 1.0, -1.0, 1.0, 0.0, 0.0, 0.0];
+    let limits = Limits { v_max: 1.0, v_min: -1.0, a_max: 1.0, a_min: -1.0, j_max: 1.0 };
+    let asked = [&Move { pf: 4.0, limits, ..Move::default() }.numbers()[..], &[0.0]].concat();
     let mut wrong = Vec::new();
-    for (from, to) in [(0, PLAN_LENGTH), (12, PLAN_LENGTH), (14, PLAN_LENGTH), (13, 0), (13, PLAN_LENGTH - 1)] {
+    let lengths = [
+        (0, PLAN_LENGTH),
+        (MOVE_LENGTH - 1, PLAN_LENGTH),
+        (MOVE_LENGTH + 1, PLAN_LENGTH),
+        (MOVE_LENGTH, 0),
+        (MOVE_LENGTH, PLAN_LENGTH - 1),
+    ];
+    for (from, to) in lengths {
         let mut output = [UNTOUCHED; PLAN_LENGTH];
         let verdict = plans::plan(&asked[..from], &mut output[..to]);
-        if verdict != 9 || touched(&output) {
-            wrong.push(format!("{from} numbers of a move, {to} of a plan: {verdict} returned, expected 9 and nothing written"));
+        if verdict != WRONG_LENGTH || touched(&output) {
+            let expected = format!("expected {WRONG_LENGTH} and nothing written");
+            wrong.push(format!("{from} numbers of a move, {to} of a plan: {verdict} returned, {expected}"));
         }
     }
     for length in [0, PLAN_LENGTH - 1] {
         let verdict = plans::is_blocked(&[0.0; PLAN_LENGTH][..length], 1.0);
-        if verdict != 9 {
-            wrong.push(format!("is_blocked of {length} numbers: {verdict} returned, expected 9"));
+        if verdict != WRONG_LENGTH {
+            wrong.push(format!("is_blocked of {length} numbers: {verdict} returned, expected {WRONG_LENGTH}"));
         }
     }
     wrong

@@ -1,7 +1,7 @@
 //! The two planners that are timed, each planning one move.
 
-use answers::{Limits, Move};
-use bench::plans::{plan, PLAN_LENGTH};
+use answers::{Limits, Move, MOVE_LENGTH};
+use bench::plans::{plan, PLAN_DURATION, PLAN_LENGTH};
 use std::hint::black_box;
 use step1_same::block::Block;
 use step1_same::choice::{input_profile, planner_for};
@@ -24,10 +24,10 @@ impl Library {
     }
 
     #[inline(always)]
-    pub fn answer(&mut self, asked: &[f64; 13]) -> Answer {
+    pub fn answer(&mut self, asked: &[f64; MOVE_LENGTH]) -> Answer {
         let verdict = plan(asked, &mut self.plan);
         let plan = black_box(&self.plan);
-        Answer { verdict, shortest: plan[0] }
+        Answer { verdict, shortest: plan[PLAN_DURATION] }
     }
 }
 

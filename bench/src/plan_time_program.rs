@@ -2,6 +2,7 @@
 
 use crate::clock::Blocks;
 use crate::planners::Library;
+use answers::MOVE_LENGTH;
 use programs::generators::moves::ordinary;
 use programs::random::Random;
 use programs::records::write_move;
@@ -35,7 +36,7 @@ impl Drop for Files {
 }
 
 /// Writes the records of `ordinary` moves, accepted or not, and gives the moves.
-fn write_records(path: &Path, seed: u64, count: usize) -> std::io::Result<Vec<[f64; 13]>> {
+fn write_records(path: &Path, seed: u64, count: usize) -> std::io::Result<Vec<[f64; MOVE_LENGTH]>> {
     let mut output = BufWriter::new(File::create(path)?);
     let mut random = Random::new(seed);
     let mut moves = Vec::with_capacity(count);

@@ -28,7 +28,7 @@ fn plan_time_cbrt(x: f64) {
 }
 
 #[no_mangle]
-fn plan_time_cosine_pair(t: f64) {
+fn plan_time_third_angle_pair(t: f64) {
     TOLD.with_borrow_mut(|told| told.pair.push(t));
 }
 
@@ -90,9 +90,9 @@ pub fn table(told: &Told, plans: usize, rounds: usize) -> [f64; 2] {
             &|times, x| times.round(|i| seen(bench::cbrt(x[i]))),
             &|times, x| times.round(|i| seen(routines::cbrt(x[i]))),
         ]),
-        Row::new("cosine pair", &told.pair, plans, rounds, [
-            &|times, x| times.round(|i| both(bench::cosine_pair(x[i]))),
-            &|times, x| times.round(|i| both(routines::cosine_pair(x[i]))),
+        Row::new("third-angle pair", &told.pair, plans, rounds, [
+            &|times, x| times.round(|i| both(bench::third_angle_pair(x[i]))),
+            &|times, x| times.round(|i| both(routines::third_angle_pair(x[i]))),
         ]),
     ];
     println!("{:<28} {:>12} {:>12} {:>12}", "function", "calls a plan", "library, ns", "Rust, ns");

@@ -1,8 +1,9 @@
 //! The archive's planning functions, safe to call, and the names of a plan's numbers.
 
-use answers::Plan;
-use programs::buffers::lay_out_plan;
-pub use programs::buffers::PLAN_LENGTH;
+use answers::{Plan, Profile};
+use programs::buffers::{lay_out_plan, PLAN_PROFILE, PLAN_STRETCH_A, PLAN_STRETCH_B};
+use programs::buffers::{INTERVAL_KIND, INTERVAL_LEFT, INTERVAL_PROFILE, INTERVAL_RIGHT};
+pub use programs::buffers::{PLAN_DURATION, PLAN_LENGTH};
 
 mod archive {
     extern "C" {
@@ -35,32 +36,34 @@ pub fn laid_out(plan: &Plan) -> [f64; PLAN_LENGTH] {
 /// The name of a plan's number.
 pub fn name_of(place: usize) -> String {
     match place {
-        0 => "shortest duration".into(),
-        1..=53 => name_in_profile(place - 1),
-        54..=109 => format!("stretch a: {}", name_in_stretch(place - 54)),
-        _ => format!("stretch b: {}", name_in_stretch(place - 110)),
+        PLAN_DURATION => "shortest duration".into(),
+        PLAN_PROFILE..PLAN_STRETCH_A => name_in_profile(place - PLAN_PROFILE),
+        PLAN_STRETCH_A..PLAN_STRETCH_B => format!("stretch a: {}", name_in_interval(place - PLAN_STRETCH_A)),
+        _ => format!("stretch b: {}", name_in_interval(place - PLAN_STRETCH_B)),
     }
 }
 
-fn name_in_stretch(place: usize) -> String {
+fn name_in_interval(place: usize) -> String {
     match place {
-        0 => "kind".into(),
-        1 => "left end".into(),
-        2 => "right end".into(),
-        _ => name_in_profile(place - 3),
+        INTERVAL_KIND => "kind".into(),
+        INTERVAL_LEFT => "left end".into(),
+        INTERVAL_RIGHT => "right end".into(),
+        _ => name_in_profile(place - INTERVAL_PROFILE),
     }
 }
 
-fn name_in_profile(place: usize) -> String {
-    const PARTS: [(&str, usize); 6] = [("t", 3), ("t_sum", 10), ("j", 17), ("a", 24), ("v", 32), ("p", 40)];
-    match place {
-        0 => "direction".into(),
-        1 => "limits".into(),
-        2 => "control signs".into(),
-        48..=52 => ["pf", "vf", "af", "brake", "accel"][place - 48].into(),
-        _ => {
-            let (name, start) = PARTS.into_iter().rfind(|(_, start)| *start <= place).expect("the first starts at 3");
-            format!("{name}[{}]", place - start)
+fn name_in_profile(mut place: usize) -> String {
+    for (name, ..) in Profile::EMPTY.names() {
+        if place == 0 {
+            return name.into();
         }
+        place -= 1;
     }
+    for (name, part) in Profile::EMPTY.parts() {
+        if place < part.len() {
+            return if part.len() == 1 { name.into() } else { format!("{name}[{place}]") };
+        }
+        place -= part.len();
+    }
+    unreachable!("{place} numbers behind a profile")
 }

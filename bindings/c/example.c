@@ -8,21 +8,25 @@ static const char *const LIMITS[] = {"Acc0Acc1Vel", "Vel", "Acc0", "Acc1", "Acc0
 static void print_profile(const double *profile)
 {
     const double *t = profile + GIRNHUSK_PROFILE_T, *j = profile + GIRNHUSK_PROFILE_J;
-    const double *a = profile + GIRNHUSK_PROFILE_A, *v = profile + GIRNHUSK_PROFILE_V, *p = profile + GIRNHUSK_PROFILE_P;
+    const double *a = profile + GIRNHUSK_PROFILE_A, *v = profile + GIRNHUSK_PROFILE_V;
+    const double *p = profile + GIRNHUSK_PROFILE_P;
     int i;
 
-    printf("direction %s, limits %s\n", profile[GIRNHUSK_PROFILE_DIRECTION] == GIRNHUSK_UP ? "UP" : "DOWN", LIMITS[(int)profile[GIRNHUSK_PROFILE_LIMITS]]);
+    printf("found as: direction %s, limits %s\n",
+           (int)profile[GIRNHUSK_PROFILE_DIRECTION] == GIRNHUSK_UP ? "UP" : "DOWN",
+           LIMITS[(int)profile[GIRNHUSK_PROFILE_LIMITS]]);
     printf("phase  duration      jerk   then: acceleration  velocity  position\n");
-    for (i = 0; i < 7; i++)
+    for (i = 0; i < GIRNHUSK_PHASES; i++)
         printf("%5d %9.4f %9.4f %20.4f %9.4f %9.4f\n", i, t[i], j[i], a[i + 1], v[i + 1], p[i + 1]);
 }
 
-static void print_stretch(const char *name, const double *stretch)
+static void print_stretch(const char *name, const double *interval)
 {
-    if (stretch[GIRNHUSK_STRETCH_KIND] == GIRNHUSK_NOTHING)
+    if ((int)interval[GIRNHUSK_INTERVAL_KIND] == GIRNHUSK_NOTHING)
         printf("stretch %s: nothing\n", name);
     else
-        printf("stretch %s: blocked from %g to %g s\n", name, stretch[GIRNHUSK_STRETCH_LEFT], stretch[GIRNHUSK_STRETCH_RIGHT]);
+        printf("stretch %s: blocked from %g to %g s\n", name, interval[GIRNHUSK_INTERVAL_LEFT],
+               interval[GIRNHUSK_INTERVAL_RIGHT]);
 }
 
 int main(void)
@@ -36,7 +40,7 @@ int main(void)
         printf("refused %d\n", (int)status);
         return 1;
     }
-    printf("shortest duration %g s\n", plan[GIRNHUSK_PLAN_DURATION]);
+    printf("duration %g s\n", plan[GIRNHUSK_PLAN_DURATION]);
     print_profile(plan + GIRNHUSK_PLAN_PROFILE);
     print_stretch("a", plan + GIRNHUSK_PLAN_STRETCH_A);
     print_stretch("b", plan + GIRNHUSK_PLAN_STRETCH_B);

@@ -5,13 +5,15 @@ import struct
 import subprocess
 import sys
 
+from samples import MOVE_LENGTH, record
+
 PLAN_MOVES = os.path.join(os.path.dirname(os.path.abspath(__file__)), "..", "target", "release", "plan_moves")
 
-if len(sys.argv) != 14:
+if len(sys.argv) != 1 + MOVE_LENGTH:
     sys.exit(__doc__)
-record = struct.pack(">HB13d", 105, 1, *map(float, sys.argv[1:]))
+given = record(map(float, sys.argv[1:]))
 for choice in ("exact", "std", "libc"):
-    lines = subprocess.run([PLAN_MOVES, "--functions", choice], input=record, stdout=subprocess.PIPE, check=True).stdout.decode().splitlines()
+    lines = subprocess.run([PLAN_MOVES, "--functions", choice], input=given, stdout=subprocess.PIPE, check=True).stdout.decode().splitlines()
     answer = lines[1].split()[1:]
     if answer[0] == "ok":
         seconds = struct.unpack(">d", bytes.fromhex(answer[1]))[0]

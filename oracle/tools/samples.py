@@ -13,8 +13,10 @@ KINDS = {"ordinary": 201, "rest": 202, "zero": 203, "wild": 204, "scale": 205, "
 DRAWN = 40_000
 OF_A_CLASS = {"wild": 4}  # how many, where not 1: the plans of wild moves are of few classes
 FIRST = {"plan_moves": 160, "plan_full": 20}  # how many of every kind besides, before doubles are dropped
-RECORD = 107
-PROFILE = 53
+MOVE_LENGTH = 13
+HEAD = struct.pack(">HB", 1 + 8 * MOVE_LENGTH, 1)  # of a record: the length of what follows it, and the version
+RECORD = len(HEAD) + 8 * MOVE_LENGTH
+STRETCHES = (b"nothing", b"between", b"from")
 NAN, INFINITY = math.nan, math.inf
 TINY = 5e-324
 LONG = 1e12
@@ -22,7 +24,7 @@ LONGER = math.nextafter(1e12, INFINITY)
 
 
 def record(numbers):
-    return struct.pack(">HB13d", 105, 1, *numbers)
+    return HEAD + struct.pack(f">{MOVE_LENGTH}d", *numbers)
 
 
 def simple(p0, v0, a0, pf, vf, af, j_max):
@@ -44,7 +46,7 @@ def with_numbers(*replaced):
 def chosen():
     """Moves on the edges of the refusals, and moves that a board's own functions plan otherwise."""
     moves = FOUR + [simple(0, 0, 0, -4, 0, 0, 1)]
-    for place in range(13):
+    for place in range(MOVE_LENGTH):
         moves += [with_numbers((place, value)) for value in (NAN, INFINITY, -INFINITY)]
         moves.append(with_numbers((6, -1.0), (11, -1.0), (place, NAN)))
     for place, value in ((6, -TINY), (7, TINY), (8, -TINY), (9, TINY), (10, -TINY)):
@@ -64,7 +66,7 @@ def shape(line, verdict):
     if fields[1] == b"refused":
         return verdict
     times = fields[6:13]
-    stretches = [fields[3 + PROFILE + k * (3 + PROFILE)] for k in (0, 1)]
+    stretches = [field for field in fields if field in STRETCHES]
     phases = bytes(ord("0" if time in (b"0" * 16, b"8" + b"0" * 15) else "1") for time in times)
     return b" ".join([verdict, *stretches, phases])
 
@@ -101,6 +103,6 @@ def demand_coverage(program, records):
     wanted += [b"%s %s\n" % (way, name) for way in (b"UP", b"DOWN") for name in (b"Vel", b"Acc0", b"Acc1", b"Acc0Acc1", b"Acc1Vel", b"None")]
     missing = [word for word in wanted if word not in met]
     kinds = run("plan_full", given=records)
-    missing += [word for word in (b" nothing ", b" between ", b" from ") if word not in kinds]
+    missing += [word for word in STRETCHES if b" %s " % word not in kinds]
     if missing:
         sys.exit(f"{program}: {missing} do not occur")

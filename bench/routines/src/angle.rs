@@ -1,6 +1,6 @@
 //! Crate `angle`: the cosine t of an angle taken apart, and estimates for a third of the angle.
 
-use crate::estimates::leading_digits;
+use crate::doubles::leading_digits;
 
 pub enum Argument {
     Known(f64, f64),

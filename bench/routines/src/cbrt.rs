@@ -2,7 +2,7 @@
 
 use crate::algebraic::{rounded_by_digits, Algebraic};
 use crate::bits;
-use crate::estimates::leading_digits;
+use crate::doubles::leading_digits;
 use crate::midpoints::cubic::between;
 
 fn first_guess(b: u64) -> f64 {

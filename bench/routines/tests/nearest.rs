@@ -66,15 +66,15 @@ fn cube_root() {
 }
 
 #[test]
-fn cosine() {
+fn third_angle_cosine() {
     let mut r = Numbers(2);
-    compare(COUNT, || r.for_pair(), |t| routines::cosine_pair(t).0, |t| cosine_and_sine_of_third(t).0);
-    compare(FEW, || r.for_pair(), routines::cosine_by_digits, |t| cosine_and_sine_of_third(t).0);
+    compare(COUNT, || r.for_pair(), |t| routines::third_angle_pair(t).0, |t| cosine_and_sine_of_third(t).0);
+    compare(FEW, || r.for_pair(), routines::third_angle_cosine_by_digits, |t| cosine_and_sine_of_third(t).0);
 }
 
 #[test]
-fn sine() {
+fn third_angle_sine() {
     let mut r = Numbers(3);
-    compare(COUNT, || r.for_pair(), |t| routines::cosine_pair(t).1, |t| cosine_and_sine_of_third(t).1);
-    compare(FEW, || r.for_pair(), routines::sine_by_digits, |t| cosine_and_sine_of_third(t).1);
+    compare(COUNT, || r.for_pair(), |t| routines::third_angle_pair(t).1, |t| cosine_and_sine_of_third(t).1);
+    compare(FEW, || r.for_pair(), routines::third_angle_sine_by_digits, |t| cosine_and_sine_of_third(t).1);
 }

@@ -27,12 +27,14 @@ fn main() {
     let mut r = Numbers(number(1, 1));
     let mut found = differences("sqrt", count, || r.any(), bench::sqrt, f64::sqrt);
     found += differences("cbrt", count, || r.any(), bench::cbrt, cbrt);
-    found += differences("cosine", count, || r.cosine(), |t| bench::cosine_pair(t).0, |t| cosine_and_sine_of_third(t).0);
-    found += differences("sine", count, || r.cosine(), |t| bench::cosine_pair(t).1, |t| cosine_and_sine_of_third(t).1);
+    let (cosine, sine): (Function, Function) = (|t| cosine_and_sine_of_third(t).0, |t| cosine_and_sine_of_third(t).1);
+    found += differences("cosine of third_angle_pair", count, || r.cosine(), |t| bench::third_angle_pair(t).0, cosine);
+    found += differences("sine of third_angle_pair", count, || r.cosine(), |t| bench::third_angle_pair(t).1, sine);
     let few = count / 100;
     found += differences("sqrt_by_digits", few, || r.any(), bench::sqrt_by_digits, f64::sqrt);
     found += differences("cbrt_by_digits", few, || r.any(), bench::cbrt_by_digits, cbrt);
-    found += differences("cosine_by_digits", few, || r.cosine(), bench::cosine_by_digits, |t| cosine_and_sine_of_third(t).0);
-    found += differences("sine_by_digits", few, || r.cosine(), bench::sine_by_digits, |t| cosine_and_sine_of_third(t).1);
+    let (cosine_by_digits, sine_by_digits) = (bench::third_angle_cosine_by_digits, bench::third_angle_sine_by_digits);
+    found += differences("third_angle_cosine_by_digits", few, || r.cosine(), cosine_by_digits, cosine);
+    found += differences("third_angle_sine_by_digits", few, || r.cosine(), sine_by_digits, sine);
     std::process::exit((found > 0) as i32);
 }

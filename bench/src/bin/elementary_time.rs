@@ -40,11 +40,12 @@ fn main() {
     row("sqrt (hardware)", time(&sizes, ROUNDS, bench::sqrt), sqrt);
     row("cbrt (std)", time(&sizes, ROUNDS, bench::cbrt), cbrt);
     let both = time(&cosines, ROUNDS, |t| {
-        let (cosine, sine) = bench::cosine_pair(t);
+        let (cosine, sine) = bench::third_angle_pair(t);
         cosine + sine
     });
     row("cosine and sine (libm)", both, pair);
     row("sqrt by digits", time(&sizes, 3, bench::sqrt_by_digits), sqrt);
     row("cbrt by digits", time(&sizes, 1, bench::cbrt_by_digits), cbrt);
-    row("cosine and sine by digits", time(&cosines, 1, |t| bench::cosine_by_digits(t) + bench::sine_by_digits(t)), pair);
+    let by_digits = |t| bench::third_angle_cosine_by_digits(t) + bench::third_angle_sine_by_digits(t);
+    row("cosine and sine by digits", time(&cosines, 1, by_digits), pair);
 }

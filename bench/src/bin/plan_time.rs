@@ -10,7 +10,7 @@ mod program;
 #[path = "../plan_time_roots.rs"]
 mod roots;
 
-use answers::Move;
+use answers::{Move, MOVE_LENGTH};
 use bench::whole_number;
 use clock::{Blocks, Singles};
 use planners::{fresh, reused, Answer, Library};
@@ -37,7 +37,7 @@ fn folded(answer: Answer) -> u64 {
 }
 
 /// Nanoseconds a plan: of the library, the Rust, and the Rust whose planner is used again.
-fn means(moves: &[Move], numbers: &[[f64; 13]], rounds: usize) -> [f64; 3] {
+fn means(moves: &[Move], numbers: &[[f64; MOVE_LENGTH]], rounds: usize) -> [f64; 3] {
     let mut library = Library::new();
     let mut planner = planner_for(&moves[0]);
     let mut times = [Blocks::new(moves.len()), Blocks::new(moves.len()), Blocks::new(moves.len())];
@@ -53,7 +53,7 @@ fn means(moves: &[Move], numbers: &[[f64; 13]], rounds: usize) -> [f64; 3] {
 }
 
 /// The worst single plan of the library and of the Rust, and what the clock alone takes.
-fn worst(moves: &[Move], numbers: &[[f64; 13]], rounds: usize) -> ([(usize, u64); 2], u64) {
+fn worst(moves: &[Move], numbers: &[[f64; MOVE_LENGTH]], rounds: usize) -> ([(usize, u64); 2], u64) {
     let mut library = Library::new();
     let mut times = [Singles::new(moves.len()), Singles::new(moves.len()), Singles::new(moves.len())];
     for _ in 0..rounds {
@@ -67,7 +67,7 @@ fn worst(moves: &[Move], numbers: &[[f64; 13]], rounds: usize) -> ([(usize, u64)
 
 fn compare(seed: u64, rounds: usize) {
     let moves = accepted_moves(seed);
-    let numbers: Vec<[f64; 13]> = moves.iter().map(Move::numbers).collect();
+    let numbers: Vec<[f64; MOVE_LENGTH]> = moves.iter().map(Move::numbers).collect();
     println!("seed {seed}, best of {rounds} rounds");
     let [library, rust, again] = means(&moves, &numbers, rounds);
     println!("{:<28} {library:>9.0} ns a plan", "library");

@@ -8,9 +8,13 @@ pub mod raw;
 use std::error::Error;
 use std::fmt;
 
-use raw::{MOVE_LENGTH, PLAN_LENGTH};
+use raw::{MOVE_LENGTH, PHASES, PLAN_LENGTH, ROWS};
 
-/// Where a move starts and ends, its limits, and two durations that are only added to the plan's, in any consistent units.
+/// Where a move starts and ends, its limits, and two durations that are only added to the plan's.
+///
+/// The planner knows no units: use one of length and one of time throughout. The tolerances are absolute, 1e-12 at the
+/// limits of velocity and acceleration and 1e-8, 1e-8 and 1e-10 at the target, so use metres, or millimetres with
+/// accelerations up to some 8,000 mm/s². A start outside the limits is planned all the same.
 #[derive(Clone, Copy, Debug, Default, PartialEq)]
 pub struct Move {
     /// Position at the start.
@@ -101,16 +105,41 @@ impl fmt::Display for NotFinite {
 
 impl Error for NotFinite {}
 
-/// Which way a profile goes.
+/// The direction that was tried, not which way the motion goes: it may fall throughout and say `Up`.
+///
+/// ```
+/// use girnhusk::{plan, Direction, Move};
+///
+/// // it comes in at -1340 mm/s, and slows down all the way from 265 mm to rest at 0
+/// let home = Move {
+///     p0: 265.0, v0: -1340.0, v_max: 2290.0, v_min: -2290.0, a_max: 19600.0, a_min: -19000.0, j_max: 490000.0,
+///     ..Move::default()
+/// };
+/// let profile = plan(&home)?.profile();
+/// assert!(profile.p.windows(2).all(|rows| rows[1] <= rows[0]));
+/// assert_eq!(profile.direction, Direction::Up);
+/// # Ok::<(), girnhusk::Refusal>(())
+/// ```
 #[derive(Clone, Copy, Debug, Eq, Hash, PartialEq)]
 pub enum Direction {
-    /// Upwards first.
+    /// The upper velocity limit of the try was above 0, as `v_max` is with the limits as given.
     Up,
-    /// Downwards first.
+    /// It was not, as with the limits swapped.
     Down,
 }
 
-/// Which limits a profile reaches: the acceleration's at its start, the acceleration's at its end, the velocity's between.
+/// The kind of profile that was tried, not which limits the motion reaches: it may keep to `v_max` and say `None`.
+///
+/// ```
+/// use girnhusk::{plan, Limits, Move};
+///
+/// let limits = Move { v_max: 1.0, v_min: -1.0, a_max: 1.0, a_min: -1.0, ..Move::default() };
+/// let passing = Move { v0: 1.0, pf: 3.0, vf: 1.0, ..limits };
+/// let profile = plan(&passing)?.profile();
+/// assert_eq!(profile.v, [1.0; 8]);
+/// assert_eq!(profile.limits, Limits::None);
+/// # Ok::<(), girnhusk::Refusal>(())
+/// ```
 #[allow(missing_docs)]
 #[derive(Clone, Copy, Debug, Eq, Hash, PartialEq)]
 pub enum Limits {
@@ -135,24 +164,24 @@ pub enum ControlSigns {
 /// Seven phases of constant jerk, and the eight rows before and after them.
 #[derive(Clone, Copy, Debug, PartialEq)]
 pub struct Profile {
-    /// Which way it goes.
+    /// The direction that was tried.
     pub direction: Direction,
-    /// Which limits it reaches.
+    /// The kind of profile that was tried.
     pub limits: Limits,
     /// The signs of its jerks.
     pub control_signs: ControlSigns,
     /// The durations of the phases.
-    pub t: [f64; 7],
+    pub t: [f64; PHASES],
     /// Their sums: when each phase ends.
-    pub t_sum: [f64; 7],
+    pub t_sum: [f64; PHASES],
     /// The phases' jerks.
-    pub j: [f64; 7],
+    pub j: [f64; PHASES],
     /// The rows' accelerations.
-    pub a: [f64; 8],
+    pub a: [f64; ROWS],
     /// The rows' velocities.
-    pub v: [f64; 8],
+    pub v: [f64; ROWS],
     /// The rows' positions.
-    pub p: [f64; 8],
+    pub p: [f64; ROWS],
     /// The target's position.
     pub pf: f64,
     /// The target's velocity.
@@ -165,7 +194,8 @@ pub struct Profile {
     pub accel: f64,
 }
 
-/// Durations that a move cannot take, though it can take some that are longer or shorter. The ends are free.
+/// Durations above the plan's that the planner calls blocked: it offers nothing there, which doesn't say that no motion
+/// takes so long. The ends are free.
 #[derive(Clone, Copy, Debug, PartialEq)]
 pub enum Stretch {
     /// No duration.
@@ -219,27 +249,27 @@ pub fn plan(mv: &Move) -> Result<Plan, Refusal> {
 }
 
 impl Plan {
-    /// The shortest duration, with brake and accel.
+    /// The duration, with brake and accel: the least of the profiles that the search accepted, not of all motions.
     pub fn duration(&self) -> f64 {
-        self.numbers[raw::DURATION]
+        self.numbers[raw::PLAN_DURATION]
     }
 
     /// The profile that takes it.
     pub fn profile(&self) -> Profile {
-        profile_at(&self.numbers, raw::PROFILE)
+        profile_at(&self.numbers, raw::PLAN_PROFILE)
     }
 
     /// The first stretch with its profile. The two are not sorted and can overlap.
     pub fn a(&self) -> Interval {
-        interval_at(&self.numbers, raw::STRETCH_A)
+        interval_at(&self.numbers, raw::PLAN_STRETCH_A)
     }
 
     /// The second stretch with its profile.
     pub fn b(&self) -> Interval {
-        interval_at(&self.numbers, raw::STRETCH_B)
+        interval_at(&self.numbers, raw::PLAN_STRETCH_B)
     }
 
-    /// Whether a duration is blocked: shorter than the shortest one, or inside a stretch.
+    /// Whether a duration is blocked: below the plan's, or inside a stretch.
     ///
     /// ```
     /// use girnhusk::{plan, Move, NotFinite, Stretch};
@@ -268,27 +298,28 @@ impl Plan {
 }
 
 fn interval_at(numbers: &[f64; PLAN_LENGTH], at: usize) -> Interval {
-    let (left, right) = (numbers[at + 1], numbers[at + 2]);
-    let stretch = match numbers[at] as u8 {
+    let interval = &numbers[at..at + raw::INTERVAL_LENGTH];
+    let (left, right) = (interval[raw::INTERVAL_LEFT], interval[raw::INTERVAL_RIGHT]);
+    let stretch = match interval[raw::INTERVAL_KIND] as u8 {
         0 => Stretch::Nothing,
         1 => Stretch::Between { left, right },
         _ => Stretch::From(left),
     };
     Interval {
         stretch,
-        profile: profile_at(numbers, at + 3),
+        profile: profile_at(numbers, at + raw::INTERVAL_PROFILE),
     }
 }
 
 fn profile_at(numbers: &[f64; PLAN_LENGTH], at: usize) -> Profile {
     let q = &numbers[at..at + raw::PROFILE_LENGTH];
     Profile {
-        direction: if q[0] == 0.0 {
+        direction: if q[raw::PROFILE_DIRECTION] == 0.0 {
             Direction::Up
         } else {
             Direction::Down
         },
-        limits: match q[1] as u8 {
+        limits: match q[raw::PROFILE_LIMITS] as u8 {
             0 => Limits::Acc0Acc1Vel,
             1 => Limits::Vel,
             2 => Limits::Acc0,
@@ -298,22 +329,22 @@ fn profile_at(numbers: &[f64; PLAN_LENGTH], at: usize) -> Profile {
             6 => Limits::Acc1Vel,
             _ => Limits::None,
         },
-        control_signs: if q[2] == 0.0 {
+        control_signs: if q[raw::PROFILE_CONTROL_SIGNS] == 0.0 {
             ControlSigns::Uddu
         } else {
             ControlSigns::Udud
         },
-        t: part(q, 3),
-        t_sum: part(q, 10),
-        j: part(q, 17),
-        a: part(q, 24),
-        v: part(q, 32),
-        p: part(q, 40),
-        pf: q[48],
-        vf: q[49],
-        af: q[50],
-        brake: q[51],
-        accel: q[52],
+        t: part(q, raw::PROFILE_T),
+        t_sum: part(q, raw::PROFILE_T_SUM),
+        j: part(q, raw::PROFILE_J),
+        a: part(q, raw::PROFILE_A),
+        v: part(q, raw::PROFILE_V),
+        p: part(q, raw::PROFILE_P),
+        pf: q[raw::PROFILE_PF],
+        vf: q[raw::PROFILE_VF],
+        af: q[raw::PROFILE_AF],
+        brake: q[raw::PROFILE_BRAKE],
+        accel: q[raw::PROFILE_ACCEL],
     }
 }
 

@@ -1,6 +1,8 @@
 //! The wrapper against document 01's moves, its refusals and its lengths.
 
-use girnhusk::raw::{MOVE_LENGTH, PLAN_LENGTH};
+use girnhusk::raw::{
+    INTERVAL_PROFILE, MOVE_LENGTH, PHASES, PLAN_LENGTH, PLAN_STRETCH_A, ROWS, WRONG_LENGTH,
+};
 use girnhusk::{
     elementary, plan, raw, ControlSigns, Direction, Limits, Move, NotFinite, Plan, Profile,
     Refusal, Stretch,
@@ -42,38 +44,39 @@ fn four_profiles() -> Move {
         a_max: 2.0,
         a_min: -2.0,
         j_max: 1.0,
-        brake: 0.0,
-        accel: 0.0,
+        ..Move::default()
     }
 }
 
 /// A move with a stretch between two durations, and one with two.
 fn with_stretches() -> [Move; 2] {
-    [
-        [
-            -1.0, 1.0, 0.0, 1.5, 0.5, -1.0, 1.0, -2.0, 3.0, -3.0, 1.0, 0.5, 0.25,
-        ],
-        [
-            -1.0, -0.5, 2.0, -1.0, 0.5, 2.0, 1.5, -1.5, 2.0, -0.5, 1.0, 0.5, 0.25,
-        ],
-    ]
-    .map(
-        |[p0, v0, a0, pf, vf, af, v_max, v_min, a_max, a_min, j_max, brake, accel]| Move {
-            p0,
-            v0,
-            a0,
-            pf,
-            vf,
-            af,
-            v_max,
-            v_min,
-            a_max,
-            a_min,
-            j_max,
-            brake,
-            accel,
-        },
-    )
+    let one = Move {
+        p0: -1.0,
+        v0: 1.0,
+        pf: 1.5,
+        vf: 0.5,
+        af: -1.0,
+        v_max: 1.0,
+        v_min: -2.0,
+        a_max: 3.0,
+        a_min: -3.0,
+        j_max: 1.0,
+        brake: 0.5,
+        accel: 0.25,
+        ..Move::default()
+    };
+    let two = Move {
+        v0: -0.5,
+        a0: 2.0,
+        pf: -1.0,
+        af: 2.0,
+        v_max: 1.5,
+        v_min: -1.5,
+        a_max: 2.0,
+        a_min: -0.5,
+        ..one
+    };
+    [one, two]
 }
 
 fn empty_profile() -> Profile {
@@ -81,12 +84,12 @@ fn empty_profile() -> Profile {
         direction: Direction::Up,
         limits: Limits::None,
         control_signs: ControlSigns::Uddu,
-        t: [0.0; 7],
-        t_sum: [0.0; 7],
-        j: [0.0; 7],
-        a: [0.0; 8],
-        v: [0.0; 8],
-        p: [0.0; 8],
+        t: [0.0; PHASES],
+        t_sum: [0.0; PHASES],
+        j: [0.0; PHASES],
+        a: [0.0; ROWS],
+        v: [0.0; ROWS],
+        p: [0.0; ROWS],
         pf: 0.0,
         vf: 0.0,
         af: 0.0,
@@ -155,7 +158,7 @@ fn passing_through_has_one_duration() {
     assert_eq!(planned.a().profile, empty_profile());
     assert_eq!(planned.b().stretch, Stretch::Nothing);
     assert_eq!(
-        planned.numbers()[raw::STRETCH_A..][..3],
+        planned.numbers()[PLAN_STRETCH_A..][..INTERVAL_PROFILE],
         [2.0, 3.0, f64::INFINITY]
     );
     assert_eq!(planned.is_blocked(2.5), Ok(true));
@@ -250,6 +253,9 @@ fn every_refusal() {
     assert_eq!(Refusal::NoProfile.to_string(), "no profile was accepted");
 }
 
+/// The doubles of a buffer that is longer than a plan.
+const LONGER: usize = PLAN_LENGTH + 34;
+
 /// A buffer that shows each write.
 fn marked<const N: usize>() -> [f64; N] {
     std::array::from_fn(|i| -1000.0 - i as f64)
@@ -257,7 +263,7 @@ fn marked<const N: usize>() -> [f64; N] {
 
 #[test]
 fn a_wrong_length_writes_nothing() {
-    let mv: [f64; 20] = std::array::from_fn(|i| {
+    let mv: [f64; MOVE_LENGTH + 7] = std::array::from_fn(|i| {
         if i < MOVE_LENGTH {
             step(4.0, 1.0).numbers()[i]
         } else {
@@ -266,14 +272,14 @@ fn a_wrong_length_writes_nothing() {
     });
     for n in (0..=mv.len()).filter(|&n| n != MOVE_LENGTH) {
         let mut out = marked::<PLAN_LENGTH>();
-        assert_eq!(raw::plan(&mv[..n], &mut out), 9);
+        assert_eq!(raw::plan(&mv[..n], &mut out), WRONG_LENGTH);
         assert_eq!(out, marked());
     }
     for n in 0..PLAN_LENGTH {
         let mut out = marked::<PLAN_LENGTH>();
-        assert_eq!(raw::plan(&mv[..MOVE_LENGTH], &mut out[..n]), 9);
+        assert_eq!(raw::plan(&mv[..MOVE_LENGTH], &mut out[..n]), WRONG_LENGTH);
         assert_eq!(out, marked());
-        assert_eq!(raw::is_blocked(&out[..n], 1.0), 9);
+        assert_eq!(raw::is_blocked(&out[..n], 1.0), WRONG_LENGTH);
     }
 }
 
@@ -288,7 +294,7 @@ fn a_refusal_writes_nothing() {
         four_profiles(),
     ];
     for (mv, number) in moves.iter().zip(1..) {
-        let mut out = marked::<200>();
+        let mut out = marked::<LONGER>();
         assert_eq!(raw::plan(&mv.numbers(), &mut out), number);
         assert_eq!(out, marked());
     }
@@ -296,13 +302,13 @@ fn a_refusal_writes_nothing() {
 
 #[test]
 fn nothing_beyond_the_plan_is_written() {
-    let mut out = marked::<200>();
+    let mut out = marked::<LONGER>();
     assert_eq!(raw::plan(&step(4.0, 1.0).numbers(), &mut out), 0);
     assert_eq!(
         out[..PLAN_LENGTH],
         plan(&step(4.0, 1.0)).unwrap().numbers()[..]
     );
-    assert_eq!(out[PLAN_LENGTH..], marked::<200>()[PLAN_LENGTH..]);
+    assert_eq!(out[PLAN_LENGTH..], marked::<LONGER>()[PLAN_LENGTH..]);
     assert_eq!(raw::is_blocked(&out, 6.0), 0);
     assert_eq!(raw::is_blocked(&out, 5.0), 1);
     assert_eq!(raw::is_blocked(&out, f64::NAN), 6);
@@ -313,10 +319,15 @@ fn elementary_functions() {
     assert_eq!(elementary::sqrt(9.0), 3.0);
     assert!(elementary::sqrt(-1.0).is_nan());
     assert_eq!(elementary::cbrt(-27.0), -3.0);
-    assert_eq!(elementary::cosine_pair(1.0), (1.0, 0.0));
+    assert_eq!(elementary::third_angle_pair(1.0), (1.0, 0.0));
     assert_eq!(
-        (elementary::cosine(-1.0), elementary::sine(-1.0)),
+        (
+            elementary::third_angle_cosine(-1.0),
+            elementary::third_angle_sine(-1.0)
+        ),
         (0.5, 0.866_025_403_784_438_6)
     );
-    assert!(elementary::cosine(1.5).is_nan() && elementary::sine(1.5).is_nan());
+    assert!(
+        elementary::third_angle_cosine(1.5).is_nan() && elementary::third_angle_sine(1.5).is_nan()
+    );
 }

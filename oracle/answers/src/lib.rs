@@ -5,8 +5,13 @@ mod wrapper;
 
 pub use wrapper::{is_blocked, plan, refused_before_planning, select};
 
-/// A move's 13 numbers, in the order of document 01's record.
-#[derive(Clone, Copy, Debug, PartialEq)]
+use core::slice::from_ref;
+
+/// How many numbers a move has.
+pub const MOVE_LENGTH: usize = 13;
+
+/// A move.
+#[derive(Clone, Copy, Debug, Default, PartialEq)]
 pub struct Move {
     pub p0: f64,
     pub v0: f64,
@@ -19,7 +24,7 @@ pub struct Move {
     pub accel: f64,
 }
 
-#[derive(Clone, Copy, Debug, PartialEq)]
+#[derive(Clone, Copy, Debug, Default, PartialEq)]
 pub struct Limits {
     pub v_max: f64,
     pub v_min: f64,
@@ -29,50 +34,36 @@ pub struct Limits {
 }
 
 impl Move {
-    pub fn from_numbers(numbers: [f64; 13]) -> Self {
-        let [p0, v0, a0, pf, vf, af, v_max, v_min, a_max, a_min, j_max, brake, accel] = numbers;
-        let limits = Limits {
-            v_max,
-            v_min,
-            a_max,
-            a_min,
-            j_max,
-        };
-        Move {
-            p0,
-            v0,
-            a0,
-            pf,
-            vf,
-            af,
-            limits,
-            brake,
-            accel,
-        }
+    /// Its numbers, in the order of document 01's record.
+    fn places(&mut self) -> [&mut f64; MOVE_LENGTH] {
+        [
+            &mut self.p0,
+            &mut self.v0,
+            &mut self.a0,
+            &mut self.pf,
+            &mut self.vf,
+            &mut self.af,
+            &mut self.limits.v_max,
+            &mut self.limits.v_min,
+            &mut self.limits.a_max,
+            &mut self.limits.a_min,
+            &mut self.limits.j_max,
+            &mut self.brake,
+            &mut self.accel,
+        ]
     }
 
-    pub fn numbers(&self) -> [f64; 13] {
-        let Limits {
-            v_max,
-            v_min,
-            a_max,
-            a_min,
-            j_max,
-        } = self.limits;
-        let Move {
-            p0,
-            v0,
-            a0,
-            pf,
-            vf,
-            af,
-            brake,
-            accel,
-            ..
-        } = *self;
-        [
-            p0, v0, a0, pf, vf, af, v_max, v_min, a_max, a_min, j_max, brake, accel,
-        ]
+    pub fn from_numbers(numbers: [f64; MOVE_LENGTH]) -> Self {
+        let mut filled = Move::default();
+        for (place, number) in filled.places().into_iter().zip(numbers) {
+            *place = number;
+        }
+        filled
+    }
+
+    pub fn numbers(&self) -> [f64; MOVE_LENGTH] {
+        let mut copy = *self;
+        copy.places().map(|place| *place)
     }
 }
 
@@ -103,18 +94,22 @@ pub const LIMITS: [&str; 8] = [
 ];
 pub const CONTROL_SIGNS: [&str; 2] = ["UDDU", "UDUD"];
 
+/// The phases of a profile, and the rows before and after them.
+pub const PHASES: usize = 7;
+pub const ROWS: usize = PHASES + 1;
+
 /// A profile's numbers; its three enums stand as places in the lists of names above.
 #[derive(Clone, Copy, Debug, PartialEq)]
 pub struct Profile {
     pub direction: usize,
     pub limits: usize,
     pub control_signs: usize,
-    pub t: [f64; 7],
-    pub t_sum: [f64; 7],
-    pub j: [f64; 7],
-    pub a: [f64; 8],
-    pub v: [f64; 8],
-    pub p: [f64; 8],
+    pub t: [f64; PHASES],
+    pub t_sum: [f64; PHASES],
+    pub j: [f64; PHASES],
+    pub a: [f64; ROWS],
+    pub v: [f64; ROWS],
+    pub p: [f64; ROWS],
     pub pf: f64,
     pub vf: f64,
     pub af: f64,
@@ -128,17 +123,55 @@ impl Profile {
         direction: 0,
         limits: 7,
         control_signs: 0,
-        t: [0.0; 7],
-        t_sum: [0.0; 7],
-        j: [0.0; 7],
-        a: [0.0; 8],
-        v: [0.0; 8],
-        p: [0.0; 8],
+        t: [0.0; PHASES],
+        t_sum: [0.0; PHASES],
+        j: [0.0; PHASES],
+        a: [0.0; ROWS],
+        v: [0.0; ROWS],
+        p: [0.0; ROWS],
         pf: 0.0,
         vf: 0.0,
         af: 0.0,
         brake: 0.0,
         accel: 0.0,
+    };
+
+    /// What comes first in a line or a buffer: its enums by name, the list of their cases, and the place there.
+    pub const fn names(&self) -> [(&'static str, &'static [&'static str], usize); 3] {
+        [
+            ("direction", &DIRECTIONS, self.direction),
+            ("limits", &LIMITS, self.limits),
+            ("control signs", &CONTROL_SIGNS, self.control_signs),
+        ]
+    }
+
+    /// What follows: its doubles by name.
+    pub const fn parts(&self) -> [(&'static str, &[f64]); 11] {
+        [
+            ("t", &self.t),
+            ("t_sum", &self.t_sum),
+            ("j", &self.j),
+            ("a", &self.a),
+            ("v", &self.v),
+            ("p", &self.p),
+            ("pf", from_ref(&self.pf)),
+            ("vf", from_ref(&self.vf)),
+            ("af", from_ref(&self.af)),
+            ("brake", from_ref(&self.brake)),
+            ("accel", from_ref(&self.accel)),
+        ]
+    }
+
+    /// How many names and how many doubles it has.
+    pub const NAMES: usize = Profile::EMPTY.names().len();
+    pub const DOUBLES: usize = {
+        let parts = Profile::EMPTY.parts();
+        let (mut count, mut part) = (0, 0);
+        while part < parts.len() {
+            count += parts[part].1.len();
+            part += 1;
+        }
+        count
     };
 }
 
@@ -186,7 +219,7 @@ impl Plan {
 pub struct Check {
     /// p0 v0 a0 pf vf af.
     pub boundary: [f64; 6],
-    pub t: [f64; 7],
+    pub t: [f64; PHASES],
     pub jf: f64,
     /// v_max v_min a_max a_min.
     pub bounds: [f64; 4],

@@ -3,8 +3,9 @@
 use crate::records::read_move;
 use crate::special;
 use crate::wrapper;
-use answers::{BlockCall, Check, FamilyCall, Move, Plan, Profile, Step1, Stretch};
+use answers::{BlockCall, Check, FamilyCall, Move, Plan, Profile, Step1, Stretch, MOVE_LENGTH};
 use programs::random::Random;
+use programs::records::{MOVE_HEAD, MOVE_SIZE};
 use step1_mutated::Choice;
 
 /// One input of a test program.
@@ -48,18 +49,15 @@ impl Asked {
     }
 }
 
-/// Where a record's doubles begin, and how many it has.
-const DOUBLES: usize = 3;
-const MOVE_NUMBERS: usize = 13;
+/// Where a record's doubles begin.
+const DOUBLES: usize = MOVE_HEAD.len();
 
 impl Asked {
     /// Every double of the input.
     pub fn numbers(&self) -> Vec<f64> {
         match self {
             Asked::Record(bytes, _) => {
-                let doubles = bytes
-                    .get(DOUBLES..DOUBLES + 8 * MOVE_NUMBERS)
-                    .unwrap_or(&[]);
+                let doubles = bytes.get(DOUBLES..MOVE_SIZE).unwrap_or(&[]);
                 doubles
                     .chunks_exact(8)
                     .map(|eight| f64::from_be_bytes(eight.try_into().expect("eight bytes")))
@@ -116,7 +114,7 @@ impl Asked {
     /// A move the other way round; anything else as it is.
     pub fn turned(&self) -> Asked {
         let numbers = self.numbers();
-        if numbers.len() != MOVE_NUMBERS {
+        if numbers.len() != MOVE_LENGTH {
             return self.clone();
         }
         let asked = special::turned(&Move::from_numbers(std::array::from_fn(|place| {
@@ -179,28 +177,10 @@ fn show_doubles(numbers: &[f64], shown: &mut Shown) {
 }
 
 fn show_profile(profile: &Profile, shown: &mut Shown) {
-    shown
-        .extend([profile.direction, profile.limits, profile.control_signs].map(|name| name as u64));
-    for numbers in [
-        &profile.t[..],
-        &profile.t_sum,
-        &profile.j,
-        &profile.a,
-        &profile.v,
-        &profile.p,
-    ] {
-        show_doubles(numbers, shown);
+    shown.extend(profile.names().map(|(_, _, place)| place as u64));
+    for (_, part) in profile.parts() {
+        show_doubles(part, shown);
     }
-    show_doubles(
-        &[
-            profile.pf,
-            profile.vf,
-            profile.af,
-            profile.brake,
-            profile.accel,
-        ],
-        shown,
-    );
 }
 
 fn show_stretch(stretch: &Stretch, shown: &mut Shown) {

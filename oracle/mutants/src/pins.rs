@@ -1,7 +1,9 @@
 //! Pins: inputs that tell mutants apart which no other stored input does, as lines of hexadecimal digits.
 
 use crate::asked::Asked;
-use programs::records::{write_block_call, write_check, write_doubles, write_family_call};
+use programs::records::{
+    write_block_call, write_check, write_doubles, write_family_call, MOVE_HEAD,
+};
 use std::collections::BTreeMap;
 use std::fs;
 use std::io;
@@ -72,7 +74,7 @@ pub fn read(folder: &Path) -> Vec<Asked> {
     };
     let mut found = Vec::new();
     for numbers in bytes("moves") {
-        found.push(Asked::Record([&[0, 105, 1], &numbers[..]].concat(), true));
+        found.push(Asked::Record([&MOVE_HEAD[..], &numbers].concat(), true));
     }
     for name in ["families", "checks", "quartics", "blocks"] {
         found.extend(

@@ -2,7 +2,7 @@
 //! tiny and huge checks, quartics with multiple roots.
 
 use crate::asked::Asked;
-use answers::{Check, FamilyCall, Limits, Move};
+use answers::{Check, FamilyCall, Limits, Move, MOVE_LENGTH};
 use programs::generators::motion::{State, JERK_SIGNS};
 use programs::generators::{checks, moves};
 use programs::random::{nudged, power_of_two, Random};
@@ -75,7 +75,7 @@ fn at_thresholds(random: &mut Random) -> Move {
         1e-10,
         1e-12,
     ];
-    let mut numbers = [0.0; 13];
+    let mut numbers = [0.0; MOVE_LENGTH];
     for number in &mut numbers[..6] {
         *number = match random.below(4) {
             0 => random.pick(&[1.0, -1.0, 0.5, 2.0]),

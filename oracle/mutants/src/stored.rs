@@ -6,8 +6,6 @@ use std::fs;
 use std::io::Read;
 use std::path::Path;
 
-const MOVE_SIZE: usize = 107;
-
 /// Reads every record of a program's input.
 type Reader = fn(&[u8]) -> Vec<Asked>;
 
@@ -81,7 +79,7 @@ fn all(
 /// Every move; the last record is cut.
 fn moves(bytes: &[u8], full: bool) -> Vec<Asked> {
     bytes
-        .chunks(MOVE_SIZE)
+        .chunks(records::MOVE_SIZE)
         .map(|record| Asked::Record(record.to_vec(), full))
         .collect()
 }

@@ -86,10 +86,26 @@ pub fn print_reasons(living: &Living, standing: Standing) {
         .iter()
         .filter(|(reason, list)| reason.standing() == standing && !list.is_empty())
     {
-        println!("\n{}\n", reason.text);
+        println!("\n{}\n", wrapped(&reason.text));
         list.iter()
             .for_each(|mutant| println!("- {}", in_code(mutant)));
     }
+}
+
+/// A text in lines of at most 120 characters.
+fn wrapped(text: &str) -> String {
+    const WIDTH: usize = 120;
+    let mut lines: Vec<String> = Vec::new();
+    for word in text.split_whitespace() {
+        match lines.last_mut() {
+            Some(line) if line.chars().count() + 1 + word.chars().count() <= WIDTH => {
+                line.push(' ');
+                line.push_str(word);
+            }
+            _ => lines.push(word.to_string()),
+        }
+    }
+    lines.join("\n")
 }
 
 /// A mutant's line: its place as code, and its change, whose own marks are kept.

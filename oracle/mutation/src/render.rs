@@ -382,9 +382,9 @@ impl<'a> Renderer<'a> {
             "ControlSigns::UDDU" => ("name", vec!["ControlSigns::UDUD".into()]),
             "Direction::UP" => ("name", vec!["Direction::DOWN".into()]),
             "Direction::DOWN" => ("name", vec!["Direction::UP".into()]),
-            "MOVE_LENGTH" => (
+            "RECORD_LENGTH" => (
                 "constant",
-                vec!["MOVE_LENGTH + 1".into(), "MOVE_LENGTH - 1".into()],
+                vec!["RECORD_LENGTH + 1".into(), "RECORD_LENGTH - 1".into()],
             ),
             "MOVE_VERSION" => (
                 "constant",

@@ -1,24 +1,28 @@
 //! A move and its plan in buffers of doubles, laid out as bindings/c/girnhusk.h says.
 
 use crate::oracle::Oracle;
-use answers::{BufferCall, Move, Plan, Profile, Stretch};
+use answers::{BufferCall, Move, Plan, Profile, Stretch, MOVE_LENGTH};
 
-/// GIRNHUSK_MOVE_LENGTH, GIRNHUSK_PLAN_LENGTH.
-const MOVE_LENGTH: usize = 13;
-pub const PLAN_LENGTH: usize = 166;
+/// A profile: its names as numbers, then its doubles.
+pub const PROFILE_LENGTH: usize = Profile::NAMES + Profile::DOUBLES;
 
-/// GIRNHUSK_PLAN_PROFILE, and GIRNHUSK_PLAN_STRETCH_A and _B.
-const PROFILE: usize = 1;
-const STRETCHES: [usize; 2] = [54, 110];
+/// An interval: the kind of its stretch, both ends, and a profile.
+pub const INTERVAL_KIND: usize = 0;
+pub const INTERVAL_LEFT: usize = 1;
+pub const INTERVAL_RIGHT: usize = 2;
+pub const INTERVAL_PROFILE: usize = 3;
+pub const INTERVAL_LENGTH: usize = INTERVAL_PROFILE + PROFILE_LENGTH;
 
-/// GIRNHUSK_STRETCH_KIND, _LEFT, _RIGHT and _PROFILE.
-const KIND: usize = 0;
-const LEFT: usize = 1;
-const RIGHT: usize = 2;
-const BESIDE: usize = 3;
+/// A plan: the shortest duration, its profile, and two intervals.
+pub const PLAN_DURATION: usize = 0;
+pub const PLAN_PROFILE: usize = 1;
+pub const PLAN_STRETCH_A: usize = PLAN_PROFILE + PROFILE_LENGTH;
+pub const PLAN_STRETCH_B: usize = PLAN_STRETCH_A + INTERVAL_LENGTH;
+pub const PLAN_LENGTH: usize = PLAN_STRETCH_B + INTERVAL_LENGTH;
+const STRETCHES: [usize; 2] = [PLAN_STRETCH_A, PLAN_STRETCH_B];
 
 /// GIRNHUSK_WRONG_LENGTH and GIRNHUSK_PLAN_SHORT.
-const WRONG_LENGTH: u64 = 9;
+pub const WRONG_LENGTH: u64 = 255;
 
 /// What every double of the plan's buffer is at first.
 pub const UNWRITTEN: f64 = -1.0;
@@ -46,7 +50,7 @@ pub fn is_blocked(oracle: &Oracle, buffer: &[f64], t: f64) -> u64 {
         return WRONG_LENGTH;
     }
     let plan = Plan {
-        shortest: buffer[0],
+        shortest: buffer[PLAN_DURATION],
         stretches: STRETCHES.map(|start| (stretch_in(&buffer[start..]), Profile::EMPTY)),
         ..Plan::EMPTY
     };
@@ -58,54 +62,34 @@ pub fn is_blocked(oracle: &Oracle, buffer: &[f64], t: f64) -> u64 {
 
 /// Writes a plan to the start of a buffer.
 pub fn lay_out_plan(plan: &Plan, to: &mut [f64]) {
-    to[0] = plan.shortest;
-    lay_out_profile(&plan.profile, &mut to[PROFILE..]);
+    to[PLAN_DURATION] = plan.shortest;
+    lay_out_profile(&plan.profile, &mut to[PLAN_PROFILE..]);
     for ((stretch, profile), start) in plan.stretches.iter().zip(STRETCHES) {
         let [left, right] = stretch.ends().unwrap_or([0.0, 0.0]);
-        to[start + KIND] = match stretch {
+        to[start + INTERVAL_KIND] = match stretch {
             Stretch::Nothing => 0.0,
             Stretch::Between(..) => 1.0,
             Stretch::From(_) => 2.0,
         };
-        to[start + LEFT] = left;
-        to[start + RIGHT] = right;
-        lay_out_profile(profile, &mut to[start + BESIDE..]);
+        to[start + INTERVAL_LEFT] = left;
+        to[start + INTERVAL_RIGHT] = right;
+        lay_out_profile(profile, &mut to[start + INTERVAL_PROFILE..]);
     }
 }
 
 fn lay_out_profile(profile: &Profile, to: &mut [f64]) {
-    let parts: [(usize, &[f64]); 8] = [
-        (
-            0,
-            &[profile.direction, profile.limits, profile.control_signs].map(|place| place as f64),
-        ),
-        (3, &profile.t),
-        (10, &profile.t_sum),
-        (17, &profile.j),
-        (24, &profile.a),
-        (32, &profile.v),
-        (40, &profile.p),
-        (
-            48,
-            &[
-                profile.pf,
-                profile.vf,
-                profile.af,
-                profile.brake,
-                profile.accel,
-            ],
-        ),
-    ];
-    for (start, numbers) in parts {
-        to[start..start + numbers.len()].copy_from_slice(numbers);
+    let names = profile.names().map(|(_, _, place)| place as f64);
+    let doubles = profile.parts().into_iter().flat_map(|(_, part)| part);
+    for (to, number) in to.iter_mut().zip(names.iter().chain(doubles)) {
+        *to = *number;
     }
 }
 
 fn stretch_in(numbers: &[f64]) -> Stretch {
-    if numbers[KIND] == 1.0 {
-        Stretch::Between(numbers[LEFT], numbers[RIGHT])
-    } else if numbers[KIND] == 2.0 {
-        Stretch::From(numbers[LEFT])
+    if numbers[INTERVAL_KIND] == 1.0 {
+        Stretch::Between(numbers[INTERVAL_LEFT], numbers[INTERVAL_RIGHT])
+    } else if numbers[INTERVAL_KIND] == 2.0 {
+        Stretch::From(numbers[INTERVAL_LEFT])
     } else {
         Stretch::Nothing
     }

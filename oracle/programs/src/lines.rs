@@ -1,6 +1,6 @@
 //! The lines that the programs print.
 
-use answers::{Plan, Profile, Stretch, CONTROL_SIGNS, DIRECTIONS, LIMITS};
+use answers::{Plan, Profile, Stretch, DIRECTIONS, LIMITS};
 use std::fmt;
 use std::io::{self, Write};
 
@@ -48,22 +48,13 @@ impl Line {
     }
 
     pub fn profile(&mut self, profile: &Profile) -> &mut Self {
-        self.word(DIRECTIONS[profile.direction])
-            .word(LIMITS[profile.limits])
-            .word(CONTROL_SIGNS[profile.control_signs])
-            .doubles(&profile.t)
-            .doubles(&profile.t_sum)
-            .doubles(&profile.j)
-            .doubles(&profile.a)
-            .doubles(&profile.v)
-            .doubles(&profile.p)
-            .doubles(&[
-                profile.pf,
-                profile.vf,
-                profile.af,
-                profile.brake,
-                profile.accel,
-            ])
+        for (_, words, place) in profile.names() {
+            self.word(words[place]);
+        }
+        for (_, part) in profile.parts() {
+            self.doubles(part);
+        }
+        self
     }
 
     /// A stretch's kind and both ends.

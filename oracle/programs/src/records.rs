@@ -3,19 +3,24 @@
 use crate::command::Stop;
 use answers::{
     BlockCall, BufferCall, Check, FamilyCall, Move, Plan, Profile, Stretch, CONTROL_SIGNS,
-    FAMILIES, LIMITS,
+    FAMILIES, LIMITS, MOVE_LENGTH,
 };
 use std::io::{self, Read, Write};
 
-/// Document 01's record: this length, this version, then 13 doubles.
-const MOVE_LENGTH: u16 = 105;
+/// Document 01's record of a move: the length of what follows it, the version, and the move's doubles.
+pub const MOVE_HEAD: [u8; 3] = {
+    let [high, low] = RECORD_LENGTH.to_be_bytes();
+    [high, low, MOVE_VERSION]
+};
+pub const MOVE_SIZE: usize = MOVE_HEAD.len() + 8 * MOVE_LENGTH;
+const RECORD_LENGTH: u16 = (1 + 8 * MOVE_LENGTH) as u16;
 const MOVE_VERSION: u8 = 1;
 
 /// A check's record: boundary, times, jerk and bounds, then limits, control signs and `set_limits`.
 const CHECK_SIZE: usize = 18 * 8 + 3;
 
 /// A family call's record: the move, then family, direction, `return_after_found` and the count so far.
-const FAMILY_SIZE: usize = 13 * 8 + 4;
+const FAMILY_SIZE: usize = 8 * MOVE_LENGTH + 4;
 
 /// A selection's record: the count; six times total, brake, accel and direction; a block given; four times.
 const BLOCK_SIZE: usize = 1 + 6 * SELECTED_SIZE + GIVEN_SIZE + 4 * 8;
@@ -33,10 +38,10 @@ pub fn read_move(input: &mut dyn Read) -> io::Result<Option<Result<Move, u8>>> {
     let mut length = [0; 2];
     match fill(input, &mut length)? {
         0 => return Ok(None),
-        2 if u16::from_be_bytes(length) == MOVE_LENGTH => (),
+        2 if u16::from_be_bytes(length) == RECORD_LENGTH => (),
         _ => return Ok(Some(Err(8))),
     }
-    let mut body = [0; MOVE_LENGTH as usize];
+    let mut body = [0; RECORD_LENGTH as usize];
     let whole = fill(input, &mut body)? == body.len();
     let asked = whole && body[0] == MOVE_VERSION;
     Ok(Some(if asked {
@@ -47,8 +52,7 @@ pub fn read_move(input: &mut dyn Read) -> io::Result<Option<Result<Move, u8>>> {
 }
 
 pub fn write_move(output: &mut dyn Write, asked: &Move) -> io::Result<()> {
-    output.write_all(&MOVE_LENGTH.to_be_bytes())?;
-    output.write_all(&[MOVE_VERSION])?;
+    output.write_all(&MOVE_HEAD)?;
     write_doubles(output, &asked.numbers())
 }
 
@@ -101,7 +105,7 @@ pub fn read_family_call(input: &mut dyn Read, number: usize) -> Result<Option<Fa
     if !read_whole(input, &mut bytes, number)? {
         return Ok(None);
     }
-    let (numbers, choices) = bytes.split_at(13 * 8);
+    let (numbers, choices) = bytes.split_at(8 * MOVE_LENGTH);
     Ok(Some(FamilyCall {
         asked: Move::from_numbers(doubles(numbers)),
         family: place("family", choices[0], FAMILIES.len(), number)?,

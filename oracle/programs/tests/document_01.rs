@@ -1,6 +1,7 @@
 //! Document 01's examples, through the programs, byte for byte.
 
-use answers::{is_blocked, plan, select, Move, Plan, Profile, Step1, Stretch};
+use answers::{is_blocked, plan, select, Move, Plan, Profile, Step1, Stretch, MOVE_LENGTH};
+use programs::buffers::PLAN_LENGTH;
 use programs::records::write_move;
 use std::io::Write;
 use std::process::{Command, Stdio};
@@ -10,13 +11,13 @@ const PLAN_MOVES: &str = env!("CARGO_BIN_EXE_plan_moves");
 const PLAN_FULL: &str = env!("CARGO_BIN_EXE_plan_full");
 
 /// p0 v0 a0 pf vf af and j_max, with v limits 1, -1, a limits 1, -1, durations 0.
-fn simple([p0, v0, a0, pf, vf, af, j_max]: [f64; 7]) -> [f64; 13] {
+fn simple([p0, v0, a0, pf, vf, af, j_max]: [f64; 7]) -> [f64; MOVE_LENGTH] {
     [
         p0, v0, a0, pf, vf, af, 1.0, -1.0, 1.0, -1.0, j_max, 0.0, 0.0,
     ]
 }
 
-fn records(moves: &[[f64; 13]]) -> Vec<u8> {
+fn records(moves: &[[f64; MOVE_LENGTH]]) -> Vec<u8> {
     let mut bytes = Vec::new();
     for &numbers in moves {
         write_move(&mut bytes, &Move::from_numbers(numbers)).unwrap();
@@ -42,7 +43,7 @@ fn plan_moves(input: &[u8]) -> String {
     output(PLAN_MOVES, &[], input)
 }
 
-fn four_moves() -> [[f64; 13]; 4] {
+fn four_moves() -> [[f64; MOVE_LENGTH]; 4] {
     [
         simple([0.0, 0.0, 0.0, 0.0, 0.0, 0.0, 1.0]),
         simple([0.0, 0.0, 0.0, 4.0, 0.0, 0.0, 1.0]),
@@ -101,7 +102,7 @@ fn refusal_5() {
     assert_eq!(plan_moves(&records(&[numbers])), "plan 1\n1 refused 5\n");
 }
 
-/// The line for the second move with some of its 13 numbers replaced.
+/// The line for the second move with some of its numbers replaced.
 fn refused(replaced: &[(usize, f64)]) -> String {
     let mut numbers = four_moves()[1];
     for &(place, value) in replaced {
@@ -116,7 +117,7 @@ fn refused(replaced: &[(usize, f64)]) -> String {
 
 #[test]
 fn refusals_1_to_3_in_order() {
-    for place in 0..13 {
+    for place in 0..MOVE_LENGTH {
         for value in [f64::NAN, f64::INFINITY, f64::NEG_INFINITY] {
             assert_eq!(refused(&[(place, value)]), "1 refused 1");
             assert_eq!(
@@ -283,13 +284,15 @@ fn buffer_record(move_length: u8, plan_length: u8, t: f64) -> Vec<u8> {
 
 #[test]
 fn buffers_of_right_and_wrong_lengths() {
+    assert_eq!((MOVE_LENGTH, PLAN_LENGTH), (13, 166));
+    let [right, fits] = [MOVE_LENGTH, PLAN_LENGTH].map(|length| length as u8);
     let calls = [
-        (13, 168, 6.0),
-        (13, 168, 5.0),
-        (12, 166, 6.0),
-        (13, 165, 6.0),
-        (13, 166, f64::NAN),
-        (12, 166, -2.0),
+        (right, fits + 2, 6.0),
+        (right, fits + 2, 5.0),
+        (right - 1, fits, 6.0),
+        (right, fits - 1, 6.0),
+        (right, fits, f64::NAN),
+        (right - 1, fits, -2.0),
     ];
     let input: Vec<u8> = calls
         .into_iter()
@@ -299,10 +302,10 @@ fn buffers_of_right_and_wrong_lengths() {
     let lines: Vec<&str> = lines.lines().collect();
     assert!(lines[0].starts_with("0 4018000000000000 0000000000000000 3FF0000000000000 "));
     assert!(lines[0].ends_with(" BFF0000000000000 BFF0000000000000 0"));
-    assert_eq!(lines[0].split(' ').count(), 1 + 168 + 1);
+    assert_eq!(lines[0].split(' ').count(), 1 + PLAN_LENGTH + 2 + 1);
     assert!(lines[1].ends_with(" 1") && lines[4].ends_with(" 6"));
-    assert_eq!(lines[2..4], ["9 unchanged 0", "9 unchanged 9"]);
-    assert_eq!(lines[5..], ["9 unchanged 1"]);
+    assert_eq!(lines[2..4], ["255 unchanged 0", "255 unchanged 255"]);
+    assert_eq!(lines[5..], ["255 unchanged 1"]);
 }
 
 #[test]

@@ -325,7 +325,7 @@ fn buffers_are_mostly_planned_in() {
     let calls: Vec<_> = (0..2000).map(|_| buffers::call(&mut random)).collect();
     let status = |call: &BufferCall| programs::buffers::plan(&oracle, call).0;
     assert!(share(&calls, |call| status(call) == 0) > 0.6);
-    for wanted in [2, 4, 9] {
+    for wanted in [2, 4, programs::buffers::WRONG_LENGTH] {
         assert!(
             share(&calls, |call| status(call) == wanted) > 0.01,
             "{wanted}"

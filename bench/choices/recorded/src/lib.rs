@@ -7,7 +7,7 @@ mod functions {
         unsafe extern "Rust" {
             pub safe fn plan_time_sqrt(x: f64);
             pub safe fn plan_time_cbrt(x: f64);
-            pub safe fn plan_time_cosine_pair(t: f64);
+            pub safe fn plan_time_third_angle_pair(t: f64);
         }
     }
 
@@ -22,8 +22,8 @@ mod functions {
     }
 
     pub fn cosine_and_sine_of_third(t: f64) -> (f64, f64) {
-        told::plan_time_cosine_pair(t);
-        routines::cosine_pair(t)
+        told::plan_time_third_angle_pair(t);
+        routines::third_angle_pair(t)
     }
 }
 

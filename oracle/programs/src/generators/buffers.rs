@@ -1,8 +1,9 @@
 //! Moves and plans in buffers: mostly of the right lengths and planned, and a time beside an end of the plan.
 
+use crate::buffers::PLAN_LENGTH;
 use crate::generators::moves;
 use crate::random::{nudged, Random};
-use answers::{plan, BufferCall, Move, Plan};
+use answers::{plan, BufferCall, Move, Plan, MOVE_LENGTH};
 use step1_exact::Choice;
 
 const KINDS: [&str; 10] = [
@@ -30,10 +31,10 @@ pub fn call(random: &mut Random) -> BufferCall {
         (asked.brake, asked.accel) = (2.0 * random.unit(), 2.0 * random.unit());
     }
     let mut numbers = [0.0; 16].map(|_: f64| random.signed_unit());
-    numbers[..13].copy_from_slice(&asked.numbers());
+    numbers[..MOVE_LENGTH].copy_from_slice(&asked.numbers());
     BufferCall {
-        move_length: length(random, 13, 17),
-        plan_length: length(random, 166, 202),
+        move_length: length(random, MOVE_LENGTH as u8, 17),
+        plan_length: length(random, PLAN_LENGTH as u8, 202),
         numbers,
         t: time(random, &asked),
     }

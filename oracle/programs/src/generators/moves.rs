@@ -2,7 +2,7 @@
 
 use crate::generators::motion::State;
 use crate::random::{nudged, power_of_two, Random};
-use answers::{Limits, Move};
+use answers::{Limits, Move, MOVE_LENGTH};
 
 /// Makes one move.
 pub type Maker = fn(&mut Random) -> Move;
@@ -174,18 +174,22 @@ pub fn zero(random: &mut Random) -> Move {
 
 /// Any bit patterns; three of four have limits of the right sign and durations that are allowed.
 pub fn wild(random: &mut Random) -> Move {
-    let mut numbers = [0.0; 13].map(|_: f64| f64::from_bits(random.bits()));
-    if !random.one_in(4) {
-        numbers = numbers.map(|number| if number.is_finite() { number } else { 1.0 });
-        with_right_signs(&mut numbers);
-        let (brake, accel) = durations(random);
-        numbers[11..].copy_from_slice(&[brake, accel]);
+    let mut numbers = [0.0; MOVE_LENGTH].map(|_: f64| f64::from_bits(random.bits()));
+    if random.one_in(4) {
+        return Move::from_numbers(numbers);
     }
-    Move::from_numbers(numbers)
+    numbers = numbers.map(|number| if number.is_finite() { number } else { 1.0 });
+    with_right_signs(&mut numbers);
+    let (brake, accel) = durations(random);
+    Move {
+        brake,
+        accel,
+        ..Move::from_numbers(numbers)
+    }
 }
 
 /// Makes v_max, a_max and j_max positive, v_min and a_min negative.
-fn with_right_signs(numbers: &mut [f64; 13]) {
+fn with_right_signs(numbers: &mut [f64; MOVE_LENGTH]) {
     for (place, sign) in [(6, 1.0), (7, -1.0), (8, 1.0), (9, -1.0), (10, 1.0)] {
         numbers[place] = sign * numbers[place].abs();
     }
@@ -216,7 +220,7 @@ pub fn scale(random: &mut Random) -> Move {
 /// Moves on the edges of the planner's tests: small round numbers, ends on limits, numbers an ulp apart, zeros of both
 /// signs, subnormals, double roots, rests that are their own target.
 pub fn edge(random: &mut Random) -> Move {
-    let mut numbers = [0.0; 13];
+    let mut numbers = [0.0; MOVE_LENGTH];
     for number in &mut numbers[..6] {
         *number = (random.below(9) as f64 - 4.0) / 2.0;
     }
@@ -389,11 +393,11 @@ fn blocked_twice(random: &mut Random) -> Move {
     }
 }
 
-/// An `edge` or a `blocked` move with one of its 13 numbers one place up or down.
+/// An `edge` or a `blocked` move with one of its numbers one place up or down.
 pub fn neighbours(random: &mut Random) -> Move {
     let near = random.pick(&[edge as Maker, blocked]);
     let mut numbers = near(random).numbers();
-    let place = random.below(13) as usize;
+    let place = random.below(MOVE_LENGTH as u64) as usize;
     numbers[place] = nudged(numbers[place], random.pick(&[1, -1]));
     Move::from_numbers(numbers)
 }

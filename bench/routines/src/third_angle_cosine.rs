@@ -1,4 +1,4 @@
-//! Crate `cosine`: certificate, digits.
+//! Crate `third_angle_cosine`: certificate, digits.
 
 use crate::algebraic::{rounded_by_digits, Algebraic};
 use crate::angle::{self, Argument};
@@ -57,7 +57,7 @@ pub fn nearest(sign: u64, m: u64, candidate: f64) -> f64 {
 }
 
 /// The cosine of a third of the angle whose cosine is t, one binary digit a round.
-pub fn cosine_by_digits(t: f64) -> f64 {
+pub fn third_angle_cosine_by_digits(t: f64) -> f64 {
     match angle::classify(t) {
         Argument::Known(cos, _) => cos,
         Argument::Inside(sign, m) => f64::from_bits(cosine_pattern(sign, m)),
