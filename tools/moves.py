@@ -21,11 +21,13 @@ from girnhusk.table import csv_text, table
 
 RECORDS_HELP = f"""Turn a text of moves into records for the planner.
 
-A line has 13 numbers, apart by blanks or commas, in this order:
+A line has 13 numbers, all apart by blanks or all by commas, in this order:
   {' '.join(COLUMNS)}
 Or the first line names the 13 columns, in any order, and each further line follows it; any other column is an
 error. Empty lines, and what follows a #, are skipped. Numbers are decimal (0.5, 1e-3), hexadecimal (0x1.8p3), inf
-or nan. Every bad line is reported as FILE:LINE, and then nothing is written."""
+or nan. Decimals have a point: a line that has blanks between numbers and a comma inside one (100,5), or is mixed
+otherwise, is refused. In a line of commas alone every comma separates. Every bad line is reported as FILE:LINE, and
+then nothing is written."""
 
 
 def read_input(name: str) -> bytes:

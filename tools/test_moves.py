@@ -19,7 +19,7 @@ sys.path.insert(0, os.path.dirname(os.path.abspath(__file__)))
 import moves
 from girnhusk.axes import spread, ticks
 from girnhusk.curves import QUANTITIES, bezier, extent, pieces
-from girnhusk.movefile import COLUMNS, Move, read_moves, to_record
+from girnhusk.movefile import COLUMNS, MIXED, SEMICOLON, Move, read_moves, to_record
 from girnhusk.numerals import short_ends
 from girnhusk.picture import picture
 from girnhusk.plans import MEANINGS, Plan, Profile, Stretch, read_answers
@@ -69,7 +69,7 @@ def profile_words(profile: Profile) -> list[str]:
 
 def line_of(plan: Plan) -> str:
     """A line as plan_full prints it."""
-    words = [str(plan.number), "ok", *double_words(plan.shortest), *profile_words(plan.profile)]
+    words = [str(plan.number), "ok", *double_words(plan.duration), *profile_words(plan.profile)]
     for stretch in plan.stretches:
         words += [stretch.kind, *double_words(stretch.left, stretch.right), *profile_words(stretch.profile)]
     return " ".join(words) + "\n"
@@ -121,9 +121,40 @@ class Records(Case):
         numbers = [0, 0, 0, 4, 0, 0, 1, -1, 1, -1, 1, 0, 0]
         self.assertEqual(self.records("0 0 0 4 0 0 1 -1 1 -1 1 0 0\n"), b"\x00\x69\x01" + struct.pack(">13d", *numbers))
 
-    def test_blanks_commas_comments_and_empty_lines(self) -> None:
-        text = "# a comment\n\n0,0, 0 ,4\t0 0  1 -1 1 -1 1 0 0 # and one behind\r\n   \n0 0 0 4 0 0 1 -1 1 -1 1 0 0"
+    def test_blanks_comments_and_empty_lines(self) -> None:
+        text = "# a comment\n\n0 0 0 4\t0 0  1 -1 1 -1 1 0 0 # and, behind, one\r\n   \n0 0 0 4 0 0 1 -1 1 -1 1 0 0"
         self.assertEqual(self.records(text), to_record(MOVE_2) * 2)
+
+    def test_numbers_stand_apart_by_blanks_or_by_commas(self) -> None:
+        words = [repr(value) for value in MOVE_2]
+        for separator in (" ", "\t", "   ", ",", ", ", " ,", " , ", ",\t"):
+            text = f"  {separator.join(words)}  # 4,5 m"
+            with self.subTest(text):
+                self.assertEqual(self.records(text), to_record(MOVE_2))
+
+    def test_a_decimal_comma_never_shifts_numbers(self) -> None:
+        blanks = "0 0 0 100,5 0 0 500 -500 2000 -2000 10000 0"
+        commas = "0, 0, 0, 100,5, 0, 0, 500, -500, 2000, -2000, 10000, 0"
+        for text in (blanks, blanks + " 0", blanks.replace(" ", "\t"), blanks.replace("100,5", "100 ,5"),
+                     blanks.replace("100,5", "100, 5"), blanks.replace("100,5", '"100,5"'), blanks + ",",
+                     commas, commas + ", 0", commas.replace(", ", " ,"), commas.replace(", ", " , "),
+                     commas.replace("100,5", "100, 5").replace("0, 0, 0", "0 0, 0")):
+            with self.subTest(text):
+                self.assertEqual(self.faults("0 0 0 4 0 0 1 -1 1 -1 1 0 0\n" + text), ["2: " + MIXED])
+
+    def test_in_a_line_of_commas_alone_each_separates(self) -> None:
+        text = "0,0,0,100,5,0,0,500,-500,2000,-2000,10000,0,0"
+        self.assertEqual(self.faults(text), ["1: too many numbers: 14 instead of 13"])
+        quoted = text.replace("100,5", '"100,5"')
+        self.assertEqual(self.faults(quoted)[0][:41], "1: too many numbers: 14 instead of 13; nu")
+
+    def test_a_semicolon_separates_nothing(self) -> None:
+        text = "0;0;0;100,5;0;0;500;-500;2000;-2000;10000;0;0"
+        self.assertEqual(self.faults(";".join(COLUMNS) + "\n" + text), ["1: " + SEMICOLON, "2: " + SEMICOLON])
+
+    def test_a_mixed_header(self) -> None:
+        text = " ".join(COLUMNS).replace(" ", ",", 1) + "\n0 0 0 4 0 0 1 -1 1 -1 1 0 0"
+        self.assertEqual(self.faults(text), ["1: " + MIXED])
 
     def test_every_form_of_a_number(self) -> None:
         text = "1e-3 -2.5E2 0x1.8p3 -0x1p-1074 +.5 -0 inf -Infinity nan 1e400 0.1 1e308 5e-324"
@@ -161,8 +192,8 @@ class Records(Case):
     def test_every_bad_line_is_reported(self) -> None:
         text = "\n".join((
             "0 0 0 4 0 0 1 -1 1 -1 1 0", "0 0 0 4 0 0 1 -1 1 -1 1 0 0", "0 0 0 4 0 0 1 -1 1 -1 1 0 0 0",
-            "0 0 0 x 0 0 1 -1 1 -1 1 0 1O", "0,,0 4 0 0 1 -1 1 -1 1 0 0", "0x1p9999 0 0 4 0 0 1 -1 1 -1 1 0 0",
-            "0 a", "0 0 0 4 0 0 1 -1 1 -1 1 0 0,"))
+            "0 0 0 x 0 0 1 -1 1 -1 1 0 1O", "0,,0,4,0,0,1,-1,1,-1,1,0,0", "0x1p9999 0 0 4 0 0 1 -1 1 -1 1 0 0",
+            "0 a", "0,0,0,4,0,0,1,-1,1,-1,1,0,0,"))
         self.assertEqual(self.faults(text), [
             "1: too few numbers: 12 instead of 13",
             "3: too many numbers: 14 instead of 13",
@@ -213,11 +244,12 @@ class Tables(Case):
         far = Stretch("between", 8.0, 9.5, EMPTY), Stretch("between", 6.25, 7.0, EMPTY)
         text = line_of(plan_2()) + line_of(plan_3()) + "4 refused 4\n" + line_of(plan_2(10, stretches=far))
         self.assertEqual(self.table(text).splitlines(), [
-            "no  verdict  shortest, s  direction  limits  blocked durations, s (ends free)",
-            " 2  ok                 6  UP         Vel     none",
-            " 3  ok                 3  UP         None    (3, inf)",
+            "no  verdict  duration, s  found as  blocked durations, s (ends free)",
+            " 2  ok                 6  UP Vel    none",
+            " 3  ok                 3  UP None   (3, inf)",
             " 4  refused 4: no profile was accepted",
-            "10  ok                 6  UP         Vel     (6.25, 7) and (8, 9.5)",
+            "10  ok                 6  UP Vel    (6.25, 7) and (8, 9.5)",
+            "found as: direction and limits of the try that was accepted, not what the motion does or reaches",
         ])
 
     def test_every_refusal_has_its_words(self) -> None:
@@ -232,15 +264,15 @@ class Tables(Case):
         self.assertEqual(interval(Stretch("between", *ends, EMPTY)), f"({ends[0]!r}, {ends[1]!r})")
 
     def test_csv_reads_back_to_the_same_doubles(self) -> None:
-        odd = plan_2()._replace(shortest=0.1 + 0.2, stretches=plan_3().stretches)
+        odd = plan_2()._replace(duration=0.1 + 0.2, stretches=plan_3().stretches)
         text = self.table(line_of(odd) + "3 refused 2\n", "--csv")
         plan, refusal = csv.DictReader(io.StringIO(text))
-        self.assertEqual(float(plan["shortest"]), 0.1 + 0.2)
+        self.assertEqual(float(plan["duration"]), 0.1 + 0.2)
         for name in ("t", "t_sum", "j", "a", "v", "p"):
             values = getattr(odd.profile, name)
             self.assertEqual(tuple(float(plan[f"{name}_{place}"]) for place in range(len(values))), values)
         self.assertEqual([plan["stretch1_kind"], plan["stretch1_left"], plan["stretch1_right"]], ["from", "3.0", "inf"])
-        self.assertEqual([refusal["verdict"], refusal["refusal"], refusal["shortest"]], ["refused", "2", ""])
+        self.assertEqual([refusal["verdict"], refusal["refusal"], refusal["duration"]], ["refused", "2", ""])
         self.assertEqual({len(row) for row in csv.reader(io.StringIO(text))}, {2 + 168})
 
     def test_a_line_reads_back(self) -> None:
@@ -314,10 +346,12 @@ class Pictures(Case):
 
     def test_the_labels_of_move_2(self) -> None:
         texts = self.texts(plan_2(), MOVE_2, "mm")
-        wanted = ["Move 2: ok, shortest duration 6 s, UP, limits Vel", "position, mm", "velocity, mm/s",
+        wanted = ["Move 2: ok, duration 6 s, found as UP Vel", "position, mm", "velocity, mm/s",
                   "acceleration, mm/s²", "jerk, mm/s³", "v_max 1", "v_min -1", "a_max 1", "a_min -1", "j_max 1",
                   "-j_max -1", "target 4", "start 0", "time, s", "phase", "0", "2", "3", "4", "6", "0 s long: 1 5",
-                  "blocked durations: none, every one from 6 s on is free"]
+                  "blocked durations: none, every one from 6 s on is free",
+                  "UP Vel names the try that was accepted, not what the motion does or reaches.",
+                  "6 s is the least duration of the profiles accepted. Below it the planner found none; a motion may exist."]
         self.assertEqual([text for text in wanted if text not in texts], [])
 
     def test_curves_have_their_degree(self) -> None:
@@ -331,7 +365,7 @@ class Pictures(Case):
         stretches = Stretch("between", 8.0, 9.5, EMPTY), Stretch("between", 6.25, 7.0, EMPTY)
         texts = self.texts(plan_2(stretches=stretches), MOVE_2)
         self.assertIn("blocked durations (hatched): A: 6.25 s to 7 s; B: 8 s to 9.5 s", texts)
-        self.assertTrue({"A", "B", "too short"} <= set(texts))
+        self.assertTrue({"A", "B", "none found"} <= set(texts))
 
     def test_brake_and_accel_times(self) -> None:
         move = MOVE_2._replace(brake=0.5, accel=0.25)

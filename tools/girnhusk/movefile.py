@@ -32,8 +32,9 @@ LENGTH = 105  # bytes after the length itself: the version and 13 doubles
 VERSION = 1
 RECORD = struct.Struct(">HB13d")
 HEAD = struct.pack(">HB", LENGTH, VERSION)
-SEPARATOR = re.compile(r"\s*,\s*|\s+")
 HEXADECIMAL = re.compile(r"[+-]?0[xX]")
+MIXED = "blanks and commas are mixed: separate all numbers by blanks or all by commas, and write decimals with a point"
+SEMICOLON = "a semicolon separates nothing: separate numbers by blanks or by commas, and write decimals with a point"
 
 
 def number(field: str) -> float:
@@ -56,12 +57,24 @@ def is_number(field: str) -> bool:
     return True
 
 
+def is_mixed(content: str) -> bool:
+    """Whether blanks and commas both separate, or a comma among blanks may belong to a decimal."""
+    if "," not in content or not re.search(r"\s", content):
+        return False
+    return bool(re.search(r"[^\s,]\s+[^\s,]", content) or re.search(r"\S,\S", content))
+
+
 def fields_of(line: str) -> list[str]:
-    """The fields before any comment; a field may stand in double quotes."""
+    """The fields before any comment; a field may stand in double quotes. ValueError if what separates is unclear."""
     content = line.split("#", 1)[0].strip()
     if not content:
         return []
-    return [field[1:-1] if re.fullmatch('".*"', field) else field for field in SEPARATOR.split(content)]
+    if ";" in content:
+        raise ValueError(SEMICOLON)
+    if is_mixed(content):
+        raise ValueError(MIXED)
+    fields = [field.strip() for field in content.split(",")] if "," in content else content.split()
+    return [field[1:-1] if re.fullmatch('".*"', field) else field for field in fields]
 
 
 def is_header(fields: Sequence[str]) -> bool:
@@ -102,7 +115,11 @@ def read_text(name: str, data: bytes) -> list[Move]:
     moves: list[Move] = []
     faults: list[Fault] = []
     for line, content in enumerate(text, 1):
-        fields = fields_of(content)
+        try:
+            fields = fields_of(content)
+        except ValueError as error:
+            faults.append(Fault(line, str(error)))
+            continue
         if not fields:
             continue
         if not columns and is_header(fields):

@@ -15,7 +15,8 @@ LEFT, RIGHT = 92, 742  # the panels' edges
 PHASES_TOP, PANELS_TOP, PANEL_HEIGHT, PANEL_STEP = 84, 134, 112, 141
 PANELS_BOTTOM = PANELS_TOP + 3 * PANEL_STEP + PANEL_HEIGHT
 STRIP_TOP, STRIP_HEIGHT = PANELS_BOTTOM + 85, 24
-WIDTH, HEIGHT = 900, STRIP_TOP + STRIP_HEIGHT + 48
+NOTES_TOP, NOTES_STEP = STRIP_TOP + STRIP_HEIGHT + 66, 17
+WIDTH, HEIGHT = 900, NOTES_TOP + NOTES_STEP + 14
 
 COLOURS = {"position": "#0b3d91", "velocity": "#00623b", "acceleration": "#8a1c1c", "jerk": "#4b2a7b"}
 POWERS = {"position": "", "velocity": "/s", "acceleration": "/s²", "jerk": "/s³"}
@@ -23,6 +24,7 @@ WAITING = "#e8e8e8"  # the ground of brake and accel times
 FAR = 2.0  # a limit further off than this many times the curve's extent is named, not drawn
 CUT = 2.0  # a brake or accel time longer than this many times the motion is cut
 SHOWN = 0.2  # what is shown of a cut time, in times of the motion
+SHORTER = "none found"  # of durations below the plan's
 
 
 class Mark(NamedTuple):
@@ -83,10 +85,15 @@ def value_range(curve: list[Piece], marks: list[Mark], with_zero: bool) -> tuple
     return with_margin(*widened(min([low, *near]), max([high, *near])), 0.06)
 
 
+def found_as(plan: Plan) -> str:
+    """The try that was accepted."""
+    return f"{plan.profile.direction} {plan.profile.limits}"
+
+
 def draw_heading(drawing: Drawing, plan: Plan, move: Move, unit: str) -> None:
     """The verdict, and what was planned."""
-    verdict = f"Move {plan.number}: ok, shortest duration {short(plan.shortest)} s"
-    drawing.text(20, 28, f"{verdict}, {plan.profile.direction}, limits {plan.profile.limits}", 17, font_weight="bold")
+    verdict = f"Move {plan.number}: ok, duration {short(plan.duration)} s"
+    drawing.text(20, 28, f"{verdict}, found as {found_as(plan)}", 17, font_weight="bold")
     for y, name, state in ((48, "start", move[:3]), (65, "target", move[3:6])):
         words = [f"{what} {short(value)} {unit}{POWERS[what]}" for what, value in zip(QUANTITIES, state)]
         drawing.text(20, y, name, 12)
@@ -239,9 +246,9 @@ def draw_level_axis(drawing: Drawing, scale: Scale, zero: float, marks: list[Tic
 
 
 def strip_scale(plan: Plan) -> Scale:
-    """The durations worth showing: a little before the shortest to a little after the last end."""
+    """The durations worth showing: a little before the plan's to a little after the last end."""
     ends = [end for stretch in plan.blocked() for end in (stretch.left, stretch.right) if math.isfinite(end)]
-    low, high = min([plan.shortest, *ends]), max([plan.shortest, *ends])
+    low, high = min([plan.duration, *ends]), max([plan.duration, *ends])
     if low == high:
         high += low / 2 or 1.0
     span = high - low
@@ -259,7 +266,7 @@ def strip_title(plan: Plan) -> str:
     """The stretches in words."""
     blocked = plan.blocked()
     if not blocked:
-        return f"blocked durations: none, every one from {short(plan.shortest)} s on is free"
+        return f"blocked durations: none, every one from {short(plan.duration)} s on is free"
     words = [stretch_words(stretch) for stretch in blocked]
     if len(words) > 1:
         words = [f"{place}: {each}" for place, each in zip("AB", words)]
@@ -293,15 +300,15 @@ def draw_stretch_names(drawing: Drawing, blocked: list[Stretch], scale: Scale) -
 
 
 def draw_strip(drawing: Drawing, plan: Plan) -> None:
-    """The durations from the shortest on, hatched where blocked."""
+    """The durations: grey below the plan's, from there on hatched where blocked."""
     scale, top, bottom = strip_scale(plan), STRIP_TOP, STRIP_TOP + STRIP_HEIGHT
     drawing.text(LEFT, top - 9, strip_title(plan), 13, font_weight="bold")
-    shortest = scale.pixel(plan.shortest)
+    edge = scale.pixel(plan.duration)
     arrow = [(LEFT, top), (RIGHT, top), (RIGHT + 16, (top + bottom) / 2), (RIGHT, bottom), (LEFT, bottom)]
     drawing.polygon(arrow, fill="#ffffff", stroke="#222222")
-    drawing.rectangle(LEFT, top, shortest - LEFT, STRIP_HEIGHT, fill="#d0d0d0", stroke="#222222")
-    if shortest - LEFT > text_width("too short", 11):
-        drawing.text((LEFT + shortest) / 2, bottom - 8, "too short", 11, text_anchor="middle")
+    drawing.rectangle(LEFT, top, edge - LEFT, STRIP_HEIGHT, fill="#d0d0d0", stroke="#222222")
+    if edge - LEFT > text_width(SHORTER, 11):
+        drawing.text((LEFT + edge) / 2, bottom - 8, SHORTER, 11, text_anchor="middle")
     blocked = plan.blocked()
     for stretch, name, angle in zip(blocked, ("blocked-a", "blocked-b"), (45, -45)):
         drawing.hatch(name, angle, "#555555")
@@ -312,6 +319,15 @@ def draw_strip(drawing: Drawing, plan: Plan) -> None:
     draw_level_axis(drawing, scale, 0.0, marks, bottom, "duration of the whole move, s")
 
 
+def draw_notes(drawing: Drawing, plan: Plan) -> None:
+    """What the heading and the strip don't say."""
+    notes = (f"{found_as(plan)} names the try that was accepted, not what the motion does or reaches.",
+             f"{short(plan.duration)} s is the least duration of the profiles accepted. "
+             "Below it the planner found none; a motion may exist.")
+    for place, note in enumerate(notes):
+        drawing.text(LEFT, NOTES_TOP + place * NOTES_STEP, note, 11.5)
+
+
 def time_title(plan: Plan, axis: TimeAxis) -> str:
     """The time axis in words, with what the duration is made of."""
     profile = plan.profile
@@ -320,7 +336,7 @@ def time_title(plan: Plan, axis: TimeAxis) -> str:
         title += ", nothing moves"
     if profile.brake or profile.accel:
         title += f" (brake {short(profile.brake)} + motion {short(axis.motion)} + accel {short(profile.accel)}"
-        title += f" = {short(plan.shortest)})"
+        title += f" = {short(plan.duration)})"
     return title
 
 
@@ -328,7 +344,7 @@ def picture(plan: Plan, move: Move, unit: str = "u") -> str:
     """The SVG's text; OverflowError if numbers are too large to draw."""
     axis = time_axis(plan)
     waiting = waits(plan.profile, axis)
-    drawing = Drawing(WIDTH, HEIGHT, f"Plan of move {plan.number}: shortest duration {short(plan.shortest)} s")
+    drawing = Drawing(WIDTH, HEIGHT, f"Plan of move {plan.number}: duration {short(plan.duration)} s")
     draw_heading(drawing, plan, move, unit)
     for wait in waiting:
         draw_wait_ground(drawing, wait)
@@ -341,4 +357,5 @@ def picture(plan: Plan, move: Move, unit: str = "u") -> str:
         draw_wait_label(drawing, wait)
     draw_cuts(drawing, axis)
     draw_strip(drawing, plan)
+    draw_notes(drawing, plan)
     return drawing.source()

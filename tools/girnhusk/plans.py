@@ -31,7 +31,10 @@ MEANINGS = {
 
 
 class Profile(NamedTuple):
-    """Seven phases of constant jerk and the eight rows between them."""
+    """Seven phases of constant jerk and the eight rows between them.
+
+    Direction and limits name the try that was accepted, not what the motion does: it may fall throughout and say UP.
+    """
 
     direction: str
     limits: str
@@ -59,8 +62,10 @@ class Stretch(NamedTuple):
 
 
 class Plan(NamedTuple):
+    """An accepted move. The duration is the least of the accepted profiles', not of all motions."""
+
     number: int
-    shortest: float
+    duration: float
     profile: Profile
     stretches: tuple[Stretch, ...]
 

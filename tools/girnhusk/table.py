@@ -8,8 +8,9 @@ from typing import Sequence
 from .numerals import short, short_ends
 from .plans import ARRAYS, SCALARS, Answer, Plan, Profile, Stretch
 
-HEADINGS = ("no", "verdict", "shortest, s", "direction", "limits", "blocked durations, s (ends free)")
+HEADINGS = ("no", "verdict", "duration, s", "found as", "blocked durations, s (ends free)")
 RIGHT_ALIGNED = (0, 2)
+FOUND_AS = "found as: direction and limits of the try that was accepted, not what the motion does or reaches\n"
 
 
 def interval(stretch: Stretch) -> str:
@@ -23,11 +24,11 @@ def table_row(answer: Answer) -> list[str]:
         return [str(answer.number), f"refused {answer.reason}: {answer.meaning()}"]
     profile = answer.profile
     blocked = " and ".join(interval(stretch) for stretch in answer.blocked()) or "none"
-    return [str(answer.number), "ok", short(answer.shortest), profile.direction, profile.limits, blocked]
+    return [str(answer.number), "ok", short(answer.duration), f"{profile.direction} {profile.limits}", blocked]
 
 
 def table(answers: Sequence[Answer]) -> str:
-    """The aligned table."""
+    """The aligned table, and below it what one of its headings means."""
     rows = [list(HEADINGS)] + [table_row(answer) for answer in answers]
     whole = [row for row in rows if len(row) == len(HEADINGS)]
     widths = [max(len(row[column]) for row in whole) for column in range(len(HEADINGS))]
@@ -39,7 +40,7 @@ def table(answers: Sequence[Answer]) -> str:
             for column, (cell, width) in enumerate(zip(row, widths))
         ]
         lines.append("  ".join(cells).rstrip() + "\n")
-    return "".join(lines)
+    return "".join(lines) + (FOUND_AS if len(whole) > 1 else "")
 
 
 def profile_columns(prefix: str) -> list[str]:
@@ -49,7 +50,7 @@ def profile_columns(prefix: str) -> list[str]:
 
 
 def csv_columns() -> list[str]:
-    columns = ["number", "verdict", "refusal", "meaning", "shortest", *profile_columns("")]
+    columns = ["number", "verdict", "refusal", "meaning", "duration", *profile_columns("")]
     for prefix in ("stretch1_", "stretch2_"):
         columns += [prefix + name for name in ("kind", "left", "right")] + profile_columns(prefix)
     return columns
@@ -66,7 +67,7 @@ def csv_row(answer: Answer) -> list[str]:
     if not isinstance(answer, Plan):
         row = [str(answer.number), "refused", str(answer.reason), answer.meaning()]
         return row + [""] * (len(csv_columns()) - len(row))
-    row = [str(answer.number), "ok", "", "", repr(answer.shortest), *profile_cells(answer.profile)]
+    row = [str(answer.number), "ok", "", "", repr(answer.duration), *profile_cells(answer.profile)]
     for stretch in answer.stretches:
         row += [stretch.kind, repr(stretch.left), repr(stretch.right), *profile_cells(stretch.profile)]
     return row
