@@ -7,23 +7,12 @@ use Rattle.sqrt.proofs.candidate.candidate.Tie as tie
 first-guess-requires : tie.Need-first-guess-requires
 first-guess-requires c κs = search needs
 
-newton-requires : tie.Need-newton-requires
-newton-requires c κs = search needs
-
-newton-requires-2 : tie.Need-newton-requires-2
-newton-requires-2 c κs = search needs
-
 leading-digits-requires : tie.Need-leading-digits-requires
 leading-digits-requires c κs = search needs
 
-newton-requires-3 : tie.Need-newton-requires-3
-newton-requires-3 c κs = search needs
-
 returns : tie.Need-returns
 unfolding candidateOf
-returns c = cc
+returns c = rw (c .leading-digits .ensures, c .before .first-guess .ensures)
 
 pub candidate-spec : {M : Type 1} → statement M
-candidate-spec =
-    tie.close (tie.spec first-guess-requires newton-requires newton-requires-2 leading-digits-requires
-    newton-requires-3 returns)
+candidate-spec = tie.close (tie.spec first-guess-requires leading-digits-requires returns)
