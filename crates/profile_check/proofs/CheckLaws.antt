@@ -1,24 +1,43 @@
 -- What the conditions of a check say makes its answer. Assumes nothing.
-use mathlib.Core.Path.{_≡_}
+use mathlib.Core.Path.{_≡_, refl, _∙_}
 use mathlib.Core.Bool.{Bool, true, false, not, _&&_}
-use mathlib.Core.List.{List}
+use mathlib.Core.List.{List, [], _∷_}
 use borrow.Author.Tests.{not-true, not-false}
 use lib.Ieee.{Float}
-use Rattle.doubles.specs.Operators.{at}
 use Rattle.profile.specs.Tolerances.{tMax}
 use Rattle.profile.specs.Limits.{boundsOf}
 use Rattle.profile_rows.specs.Rows.{jerks, rowsOf}
-use Rattle.profile_check.specs.Check.{timesPass, phasesPass, sumPasses, zeroPasses, zerosPass, endPasses, rowsPass, accepted}
+use Rattle.profile_check.specs.Check.{timesPass, phasesPass, sumPasses, zerosPass, endPasses, rowsPass, accepted}
 use Rattle.profile.specs.declared.Start.{Start}
 use Rattle.profile.specs.declared.Target.{Target}
 use Rattle.profile.specs.declared.Limits.{Limits}
+use Rattle.profile_rows.specs.declared.Row.{Row}
 use Rattle.profile_rows.specs.declared.Rows.{Rows}
 use Rattle.profile.specs.declared.Bounds.{Bounds}
 use Rattle.profile.specs.declared.ReachedLimits.{ReachedLimits}
 use Rattle.profile.specs.declared.ControlSigns.{ControlSigns}
 
--- x1, x2 and x3 are the conditions of the times, z2 to z6 those of the speed at zero acceleration in phases 2 to 6,
--- x4 and x5 those of the rows
+-- three conditions in the order that the check tests them, and in that of the definition
+turned : (a b c : Bool) → (c && b && a) ≡ (a && b && c)
+turned true true true = refl
+turned true true false = refl
+turned true false true = refl
+turned true false false = refl
+turned false true true = refl
+turned false true false = refl
+turned false false true = refl
+turned false false false = refl
+
+-- the rows, column by column
+abbrev pub columns : (r0 r1 r2 r3 r4 r5 r6 r7 : Row) → Rows
+columns r0 r1 r2 r3 r4 r5 r6 r7 =
+    record {
+      a = r0 .a ∷ r1 .a ∷ r2 .a ∷ r3 .a ∷ r4 .a ∷ r5 .a ∷ r6 .a ∷ r7 .a ∷ [];
+      v = r0 .v ∷ r1 .v ∷ r2 .v ∷ r3 .v ∷ r4 .v ∷ r5 .v ∷ r6 .v ∷ r7 .v ∷ [];
+      p = r0 .p ∷ r1 .p ∷ r2 .p ∷ r3 .p ∷ r4 .p ∷ r5 .p ∷ r6 .p ∷ r7 .p ∷ [];
+    }
+
+-- x1, x2 and x3 are the tests of the times, x those of the rows
 module _ (start : Start) (target : Target) (t : List Float) (signs : ControlSigns) (reached : ReachedLimits) (set-limits : Bool) (jf : Float) (m : Limits)
     {x1 : Bool} (e1 : x1 ≡ timesPass t) where
   pub refused-times : not x1 ≡ true → false ≡ accepted start target t signs reached set-limits jf m
@@ -31,34 +50,13 @@ module _ (start : Start) (target : Target) (t : List Float) (signs : ControlSign
     refused-phases h = rw (← e1, not-false x1 h1, ← e2, ← e3, not-true (x2 && x3) h)
 
     pub by-rows : not (x2 && x3) ≡ false
-        → {j : List Float} {r : Rows} {b : Bounds} {z2 z3 z4 z5 z6 x4 x5 : Bool}
+        → {j : List Float} {r : Rows} {b : Bounds} {x : Bool}
         → j ≡ jerks signs t jf
         → r ≡ rowsOf start t j reached set-limits m
         → b ≡ boundsOf m
-        → z2 ≡ zeroPasses (at (r .a) 2) (at (r .a) 3) (at (r .v) 2) (at j 2) b
-        → z3 ≡ zeroPasses (at (r .a) 3) (at (r .a) 4) (at (r .v) 3) (at j 3) b
-        → z4 ≡ zeroPasses (at (r .a) 4) (at (r .a) 5) (at (r .v) 4) (at j 4) b
-        → z5 ≡ zeroPasses (at (r .a) 5) (at (r .a) 6) (at (r .v) 5) (at j 5) b
-        → z6 ≡ zeroPasses (at (r .a) 6) (at (r .a) 7) (at (r .v) 6) (at j 6) b
-        → x4 ≡ endPasses r target
-        → x5 ≡ rowsPass r b
-        → (z2 && z3 && z4 && z5 && z6 && x4 && x5) ≡ accepted start target t signs reached set-limits jf m
-    unfolding accepted zerosPass
-    by-rows h ej er eb f2 f3 f4 f5 f6 e4 e5 =
-        rw (
-          ← e1,
-          not-false x1 h1,
-          ← e2,
-          ← e3,
-          not-false (x2 && x3) h,
-          ← ej,
-          ← er,
-          ← eb,
-          ← f2,
-          ← f3,
-          ← f4,
-          ← f5,
-          ← f6,
-          ← e4,
-          ← e5,
-        )
+        → x ≡ (rowsPass r b && endPasses r target && zerosPass r j b)
+        → x ≡ accepted start target t signs reached set-limits jf m
+    unfolding accepted
+    by-rows h {j} {r} {b} ej er eb e =
+        rw (← e1, not-false x1 h1, ← e2, ← e3, not-false (x2 && x3) h, ← ej, ← er, ← eb)
+        (e ∙ turned (zerosPass r j b) (endPasses r target) (rowsPass r b))

@@ -2,7 +2,7 @@
 
 ghost use mathlib.Core.Path.{_≡_};
 ghost use mathlib.Core.Bool.{_&&_};
-ghost use Rattle.doubles.specs.Operators.{_-ᶠ_, _<ᶠ_};
+ghost use Rattle.doubles.specs.Operators.{_-ᶠ_, _<ᶠ_, at};
 ghost use Rattle.doubles.specs.Functions.{absᶠ};
 ghost use Rattle.profile.specs.Tolerances.{pPrecision, vPrecision, aPrecision};
 ghost use Rattle.profile_check.specs.Check.{timesPass, phasesPass, sumPasses, zeroPasses, aWithin, vWithin};
@@ -44,11 +44,46 @@ pub fn sum_passes(longest: f64, t: [f64; 7]) -> bool
 }
 
 // In a phase from acceleration a to a_next: the speed at zero acceleration, if it is met, is within the bounds.
-pub fn zero_passes(a: f64, a_next: f64, v: f64, j: f64, b: Bounds) -> bool
+fn zero_passes(a: f64, a_next: f64, v: f64, j: f64, b: Bounds) -> bool
     ensures { λ r. ⌜ r ≡ zeroPasses a «a_next» v j b ⌝ }
 {
-    let v_a_zero = v - a * a / (2.0 * j);
-    !((a_next * a < -EPSILON) & ((v_a_zero > b.v_upp_lim) | (v_a_zero < b.v_low_lim)))
+    if a_next * a < -EPSILON {
+        let v_a_zero = v - a * a / (2.0 * j);
+        return !((v_a_zero > b.v_upp_lim) | (v_a_zero < b.v_low_lim));
+    }
+    true
+}
+
+// The same in phases 2 to 6, from row 2 to row 7.
+pub fn zeros_pass(
+    r2: Row,
+    r3: Row,
+    r4: Row,
+    r5: Row,
+    r6: Row,
+    r7: Row,
+    j: [f64; 7],
+    b: Bounds,
+) -> bool
+    ensures { λ x. ⌜ x ≡ (zeroPasses (r2 .a) (r3 .a) (r2 .v) (at j 2) b
+        && zeroPasses (r3 .a) (r4 .a) (r3 .v) (at j 3) b
+        && zeroPasses (r4 .a) (r5 .a) (r4 .v) (at j 4) b
+        && zeroPasses (r5 .a) (r6 .a) (r5 .v) (at j 5) b
+        && zeroPasses (r6 .a) (r7 .a) (r6 .v) (at j 6) b) ⌝ }
+{
+    if !zero_passes(r2.a, r3.a, r2.v, j[2], b) {
+        return false;
+    }
+    if !zero_passes(r3.a, r4.a, r3.v, j[3], b) {
+        return false;
+    }
+    if !zero_passes(r4.a, r5.a, r4.v, j[4], b) {
+        return false;
+    }
+    if !zero_passes(r5.a, r6.a, r5.v, j[5], b) {
+        return false;
+    }
+    zero_passes(r6.a, r7.a, r6.v, j[6], b)
 }
 
 // The last row is at the target.

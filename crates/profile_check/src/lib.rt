@@ -11,7 +11,7 @@ use conditions::phases_pass;
 use conditions::rows_pass;
 use conditions::sum_passes;
 use conditions::times_pass;
-use conditions::zero_passes;
+use conditions::zeros_pass;
 use profile::ControlSigns;
 use profile::Limits;
 use profile::Profile;
@@ -32,7 +32,7 @@ pub struct Checked {
     pub profile: Profile,
 }
 
-// Whether the times t, from the start, meet every condition of the check.
+// Whether the times t, from the start, meet every condition of the check. The cheapest and most telling come first.
 pub fn accepts(
     start: Start,
     target: Target,
@@ -65,12 +65,13 @@ pub fn accepts(
     let r5 = outer_row(reached, set_limits, limits.a_min, row_after(r4, t[4], j[4]));
     let r6 = row_after(r5, t[5], j[5]);
     let r7 = row_after(r6, t[6], j[6]);
-    let zeros = zero_passes(r2.a, r3.a, r2.v, j[2], b)
-        & zero_passes(r3.a, r4.a, r3.v, j[3], b)
-        & zero_passes(r4.a, r5.a, r4.v, j[4], b)
-        & zero_passes(r5.a, r6.a, r5.v, j[5], b)
-        & zero_passes(r6.a, r7.a, r6.v, j[6], b);
-    zeros & end_passes(r7, target) & rows_pass(r1, r3, r4, r5, r6, b)
+    if !rows_pass(r1, r3, r4, r5, r6, b) {
+        return false;
+    }
+    if !end_passes(r7, target) {
+        return false;
+    }
+    zeros_pass(r2, r3, r4, r5, r6, r7, j, b)
 }
 
 // The boundary of q with the times t and what the check fills in.
