@@ -1,4 +1,4 @@
--- What `add_profile` keeps. Assumes nothing.
+-- What an accepted try keeps. Assumes nothing.
 use Prim.Native.Nat.{ℕ, _+_, _<_, _≤_}
 use mathlib.Core.Path.{_≡_, refl, sym, ap, _∙_, subst}
 use mathlib.Core.Bool.{Bool, true, false}

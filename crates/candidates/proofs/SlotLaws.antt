@@ -1,4 +1,4 @@
--- What `add_profile` does to the slots. Assumes nothing.
+-- What an accepted try does to the slots. Assumes nothing.
 use Prim.Native.Nat.{ℕ, _+_, _<_, _≤_}
 use mathlib.Core.Path.{_≡_, sym, ap, _∙_}
 use mathlib.Core.List.{List, map}

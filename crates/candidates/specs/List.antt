@@ -31,7 +31,7 @@ stored c q =
 abbrev pub profileIn : Candidates → Try → Profile
 profileIn c x = profileOf (slot c (c .«current_index») .brake) (slot c (c .«current_index») .accel) x
 
--- `add_profile` after a check that accepted the try
+-- `add_profile`, where the check accepts the try
 unfoldable pub added : Candidates → Try → Candidates
 added c x = stored c (profileIn c x)
 

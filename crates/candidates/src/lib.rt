@@ -2,7 +2,7 @@
 
 ghost use mathlib.Core.Path.{_≡_};
 ghost use Rattle.candidates.specs.Try.{passes, profileOf};
-ghost use Rattle.candidates.specs.List.{added, freshList};
+ghost use Rattle.candidates.specs.List.{freshList};
 use profile::ControlSigns;
 use profile::Limits;
 use profile::Profile;
@@ -84,24 +84,5 @@ impl Candidates {
             valid_profiles,
             current_index: 0,
         }
-    }
-
-    // The list with an accepted try.
-    pub fn add_profile(mut self, x: Try) -> Candidates
-        ensures { λ r. ⌜ r ≡ added self x ⌝ }
-    {
-        let at = self.current_index;
-        if at < 6 {
-            let slot = self.valid_profiles[at];
-            let profile = profile_of(slot.brake, slot.accel, x);
-            self.valid_profiles[at] = profile;
-            if at < 5 {
-                let next = at + 1;
-                let beyond = self.valid_profiles[next];
-                self.valid_profiles[next] = beyond.with_boundary_from_profile(profile);
-                self.current_index = next;
-            }
-        }
-        self
     }
 }

@@ -1,2 +1,3 @@
 -- The laws of `families_test`.
 pub mod ListLaws
+pub mod StageLaws

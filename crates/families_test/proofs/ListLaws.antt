@@ -27,3 +27,9 @@ pub slot-put : {out after : List ℕ} {at next most : ℕ} (c : Candidates) (d :
 slot-put c d i six h p =
     let within : i < length (c .«valid_profiles») = omega arith in
     rw (getD-within (c .«valid_profiles») i d emptyProfile within) at p
+
+pub first-slot : (c : Candidates) (d : Profile) → length (c .«valid_profiles») ≡ 6
+    → getD (c .«valid_profiles») 0 d ≡ slot c 0
+first-slot c d six =
+    let within : 0 < length (c .«valid_profiles») = omega arith in
+    getD-within (c .«valid_profiles») 0 d emptyProfile within

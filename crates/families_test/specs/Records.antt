@@ -1,7 +1,7 @@
 -- What the bytes of a record mean: a move's 13 doubles, then a byte each for the family, the direction,
 -- `return_after_found` and how many profiles the list counts already. Definitions only.
 use Prim.Native.Nat.{ℕ}
-use mathlib.Core.Bool.{cond}
+use mathlib.Core.Bool.{Bool, true, cond, _&&_}
 use mathlib.Core.List.{List}
 use lib.Dec.{eqb}
 use lib.ListN.{getD, set, replicate}
@@ -18,12 +18,13 @@ use Rattle.phase_times.specs.declared.constants.Constants.{Constants}
 use Rattle.trees.specs.Tree.{run}
 use Rattle.candidates.specs.Try.{passes}
 use Rattle.candidates.specs.declared.Candidates.{Candidates}
-use Rattle.position_third_step1.specs.CheckTree.{found}
+use Rattle.position_third_step1.specs.CheckTree.{CheckTree, found}
 use Rattle.position_third_step1.specs.TimeAllVel.{timeAllVel}
 use Rattle.position_third_step1.specs.TimeAcc0Acc1.{timeAcc0Acc1}
 use Rattle.position_third_step1.specs.TimeAllNoneAcc0Acc1.{timeAllNoneAcc0Acc1}
 use Rattle.position_third_step1.specs.TwoStep.{timeAcc1VelTwoStep, timeAcc0TwoStep, timeVelTwoStep, timeNoneTwoStep}
 use Rattle.position_third_step1.specs.TimeAllSingleStep.{timeAllSingleStep}
+use Rattle.search.specs.Stages.{isFound}
 
 -- ---- p0 v0 a0 pf vf af v_max v_min a_max a_min j_max brake accel
 unfoldable pub startOf : List ℕ → Start
@@ -49,7 +50,12 @@ listOf b n = record { «valid_profiles» = set (replicate 6 emptyProfile) n (bou
 
 -- ---- what the family gives
 
--- the list after the family of this number
+-- the list after a call. A guarded one is made only where no profile counts; else the list stays as it came
+abbrev pub called : (guarded : Bool) → Candidates → CheckTree → Candidates
+called guarded c t = cond (guarded && isFound c) c (found t)
+
+-- the list after the family of this number. A search that ends with the first profile found calls families where none
+-- counts: those with `return_after_found`, and the two-step families
 unfoldable pub afterFamily : List ℕ → Candidates → Candidates
 afterFamily b c =
     let start = startOf b in
@@ -59,12 +65,12 @@ afterFamily b c =
     let family = getD b 104 0 in
     let return-after-found = eqb (getD b 106 0) 1 in
     cond (eqb family 0) (found (timeAllVel c start target k m))
-    (cond (eqb family 1) (found (timeAcc0Acc1 c start target k m return-after-found))
-    (cond (eqb family 2) (found (timeAllNoneAcc0Acc1 c start target k m return-after-found))
-    (cond (eqb family 3) (found (timeAcc1VelTwoStep c start target k m))
-    (cond (eqb family 4) (found (timeAcc0TwoStep c start target k m))
-    (cond (eqb family 5) (found (timeVelTwoStep c start target k m))
-    (found (timeNoneTwoStep c start target k m)))))))
+    (cond (eqb family 1) (called return-after-found c (timeAcc0Acc1 c start target k m return-after-found))
+    (cond (eqb family 2) (called return-after-found c (timeAllNoneAcc0Acc1 c start target k m return-after-found))
+    (cond (eqb family 3) (called true c (timeAcc1VelTwoStep c start target k m))
+    (cond (eqb family 4) (called true c (timeAcc0TwoStep c start target k m))
+    (cond (eqb family 5) (called true c (timeVelTwoStep c start target k m))
+    (called true c (timeNoneTwoStep c start target k m)))))))
 
 -- the single-step path, which works on one profile
 unfoldable pub singleStep : List ℕ → Checked

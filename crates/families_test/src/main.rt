@@ -1,6 +1,9 @@
 // Calls of single families in, the profiles that they add out, as the oracle's program `families` has them. A record is
 // a move's 13 big-endian doubles, then a byte each for the family, the direction, `return_after_found` and how many
 // profiles the list counts already. A line is how many profiles were added, and each of them.
+// There is one search, and a family is some of its stages. Those of a family with `return_after_found`, and those of a
+// two-step family, are entered only where no profile counts: plans call them nowhere else, and stored records have a
+// count of 0 with them. Where some count such a family adds none.
 // oracle/tools/make_stored.py makes the stored input and output.
 
 mod records; // records.rt: what the bytes of a record mean

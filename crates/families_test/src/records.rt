@@ -2,24 +2,24 @@
 
 ghost use mathlib.Core.Path.{_≡_};
 ghost use Prim.Native.Nat.{_<_};
-ghost use Rattle.families_test.specs.Records.{startOf, targetOf, limitsOf, boundaryOf, directed, listOf, afterFamily, singleStep};
+ghost use Rattle.candidates.specs.List.{slot};
+ghost use Rattle.position_third_step1.specs.TimeAcc0Acc1.{timeAcc0Acc1};
+ghost use Rattle.position_third_step1.specs.TimeAllNoneAcc0Acc1.{timeAllNoneAcc0Acc1};
+ghost use Rattle.search.specs.Choices.{towardsTarget};
+ghost use Rattle.search.specs.Stages.{isFound};
+ghost use Rattle.families_test.specs.Records.{startOf, targetOf, limitsOf, boundaryOf, directed, listOf};
+ghost use Rattle.families_test.specs.Records.{called, afterFamily, singleStep};
 use candidates::Candidates;
 use encoding::byte_at;
 use encoding::double_at;
 use phase_times::constants::Constants;
-use position_third_step1::time_acc0_acc1;
-use position_third_step1::time_acc0_two_step;
-use position_third_step1::time_acc1_vel_two_step;
-use position_third_step1::time_all_none_acc0_acc1;
-use position_third_step1::time_all_single_step;
-use position_third_step1::time_all_vel;
-use position_third_step1::time_none_two_step;
-use position_third_step1::time_vel_two_step;
 use profile::Limits;
 use profile::Profile;
 use profile::Start;
 use profile::Target;
 use profile_check::Checked;
+use search::Kind;
+use search::search;
 
 fn start_of(bytes: &[u8; 108]) -> Start
     ensures { λ r. ⌜ r ≡ startOf (now (bytes .entry)) ⌝ }
@@ -87,7 +87,53 @@ pub fn list_of(bytes: &[u8; 108], n: usize) -> Candidates
     }
 }
 
-// The list after the record's family.
+// The limits of which stages towards the target make m: swapped twice, limits are as they were.
+fn before_turning(k: Constants, m: Limits) -> Limits
+    ensures { λ r. ⌜ towardsTarget k r ≡ m ⌝ }
+{
+    if k.pd >= 0.0 {
+        return m;
+    }
+    m.swapped()
+}
+
+// After `time_acc0_acc1`: with return_after_found a stage of a resting target, without one of any other.
+fn after_acc0_acc1(
+    c: Candidates,
+    start: Start,
+    target: Target,
+    k: Constants,
+    m: Limits,
+    return_after_found: bool,
+) -> Candidates
+    ensures { λ r. ⌜ r ≡ called «return_after_found» c (timeAcc0Acc1 c start target k m «return_after_found») ⌝ }
+{
+    if return_after_found {
+        let w = before_turning(k, m);
+        return search(c, start, target, k, w, Kind::Resting, 4, 5);
+    }
+    search(c, start, target, k, m, Kind::Moving, 6, 7)
+}
+
+// After `time_all_none_acc0_acc1`, likewise: a stage for each polynomial.
+fn after_none_acc0_acc1(
+    c: Candidates,
+    start: Start,
+    target: Target,
+    k: Constants,
+    m: Limits,
+    return_after_found: bool,
+) -> Candidates
+    ensures { λ r. ⌜ r ≡ called «return_after_found» c (timeAllNoneAcc0Acc1 c start target k m «return_after_found») ⌝ }
+{
+    if return_after_found {
+        let w = before_turning(k, m);
+        return search(c, start, target, k, w, Kind::Resting, 1, 4);
+    }
+    search(c, start, target, k, m, Kind::Moving, 0, 3)
+}
+
+// The list after the record's family: those stages of a search that are the family in the direction of m.
 pub fn after_family(bytes: &[u8; 108], c: Candidates) -> Candidates
     ensures { λ r. ⌜ r ≡ afterFamily (now (bytes .entry)) c ⌝ }
 {
@@ -98,13 +144,24 @@ pub fn after_family(bytes: &[u8; 108], c: Candidates) -> Candidates
     let family = byte_at(bytes, 104);
     let return_after_found = byte_at(bytes, 106) == 1;
     match family {
-        0 => time_all_vel(c, start, target, k, m),
-        1 => time_acc0_acc1(c, start, target, k, m, return_after_found),
-        2 => time_all_none_acc0_acc1(c, start, target, k, m, return_after_found),
-        3 => time_acc1_vel_two_step(c, start, target, k, m),
-        4 => time_acc0_two_step(c, start, target, k, m),
-        5 => time_vel_two_step(c, start, target, k, m),
-        _ => time_none_two_step(c, start, target, k, m),
+        0 => search(c, start, target, k, m, Kind::Moving, 8, 9),
+        1 => after_acc0_acc1(c, start, target, k, m, return_after_found),
+        2 => after_none_acc0_acc1(c, start, target, k, m, return_after_found),
+        3 => search(c, start, target, k, m, Kind::Moving, 16, 17),
+        4 => search(c, start, target, k, m, Kind::Moving, 12, 13),
+        5 => search(c, start, target, k, m, Kind::Moving, 14, 15),
+        _ => search(c, start, target, k, m, Kind::Moving, 10, 11),
+    }
+}
+
+// The first profile of a list, and whether it counts.
+fn first_found(c: Candidates) -> Checked
+    ensures { λ r. ⌜ (r .ok ≡ isFound c) × (r .profile ≡ slot c 0) ⌝ }
+{
+    let profile = c.valid_profiles[0];
+    Checked {
+        ok: c.current_index > 0,
+        profile,
     }
 }
 
@@ -115,5 +172,7 @@ pub fn single_step(bytes: &[u8; 108]) -> Checked
     let start = start_of(bytes);
     let target = target_of(bytes);
     let k = Constants::new(start, target, limits_of(bytes));
-    time_all_single_step(boundary_of(bytes), start, target, k, directed(bytes))
+    let c = list_of(bytes, 0);
+    let m = directed(bytes);
+    first_found(search(c, start, target, k, m, Kind::SingleStep, 0, 1))
 }

@@ -17,7 +17,7 @@ use Rattle.profile.specs.declared.Target.{Target}
 use Rattle.profile.specs.declared.Limits.{Limits}
 use Rattle.profile_check.specs.declared.Checked.{Checked}
 use Rattle.phase_times.specs.Constants.{constantsOf}
-use Rattle.get_profile.specs.Choices.{hasZeroLimit, endsAtRest, restsAtTarget}
+use Rattle.search.specs.Choices.{hasZeroLimit, endsAtRest, restsAtTarget, towardsTarget}
 use Rattle.phase_times.specs.TimeAllSingleStep.{startsMoving, startsAccelerated}
 use Rattle.phase_times.specs.declared.constants.Constants.{Constants}
 use Rattle.trees.specs.Tree.{run}
@@ -35,16 +35,16 @@ use Rattle.block.specs.Selection.{removal, selected}
 use Rattle.block.specs.Plans.{Each}
 use Rattle.block.proofs.MemberLaws.{alone-each, from-each, selected-each, selected-duration, refused-empty}
 use Rattle.block.proofs.RefusalLaws.{selected-refusal}
-use Rattle.get_profile.specs.Stages.{Stage, limitsOf, itselfOrder, restingOrder, movingOrder, twoStepOrder}
-use Rattle.get_profile.specs.Stages.{stopsOf, stageOf, stagesOf}
+use Rattle.get_profile.specs.Calls.{Call, limitsOf, itselfOrder, restingOrder, movingOrder, twoStepOrder}
+use Rattle.get_profile.specs.Calls.{stopsOf, callOf, callsOf}
 use Rattle.get_profile.specs.Answered.{AcceptedFor, Answered}
-use Rattle.get_profile.specs.GetProfile.{EitherWay, TryBetween, resting, moving, twoStep, towardsTarget}
+use Rattle.get_profile.specs.GetProfile.{EitherWay, TryBetween, resting, moving, twoStep}
 use Rattle.get_profile.specs.GetProfile.{firstSearch}
 use Rattle.get_profile.specs.GetProfile.{tryFamilies, afterPassing, singleStepAnswer, selectedFrom}
 use Rattle.get_profile.specs.GetProfile.{getProfileAnswer, foundFor}
 use Rattle.get_profile.proofs.WayLaws.{way-of, towards}
 use Rattle.get_profile.proofs.FamiliesLaws.{Keeps, Every, none, also, first-keeps, each-keeps}
-use Rattle.get_profile.proofs.StageLaws.{tries-bounded, every-stage}
+use Rattle.get_profile.proofs.CallLaws.{tries-bounded, every-call}
 use Rattle.get_profile.proofs.SearchLaws.{single-step-is, searched-is}
 
 -- ---- every family keeps the list sound
@@ -53,9 +53,9 @@ module _ (start : Start) (target : Target) (M : Limits) (z : hasZeroLimit M ≡ 
   abbrev SoundList : Candidates → Type 0
   SoundList = Sound (TryBetween start target M) start target brake accel
 
-  stage-kept : (stop : Bool) (m : Limits) → EitherWay M m → (s : Stage)
-      → Keeps SoundList (stageOf start target k stop m s)
-  stage-kept stop m d s c p =
+  call-kept : (stop : Bool) (m : Limits) → EitherWay M m → (s : Call)
+      → Keeps SoundList (callOf start target k stop m s)
+  call-kept stop m d s c p =
       let n = limitsOf (s .1) m in
       let e : EitherWay M n = way-of M m (s .1) d in
       found-sound (stopsOf stop (s .0)) c
@@ -69,19 +69,19 @@ module _ (start : Start) (target : Target) (M : Limits) (z : hasZeroLimit M ≡ 
       (tries-bounded start target k (s .0) n)
       p
 
-  stages-kept : (stop : Bool) (m : Limits) → EitherWay M m → (order : List Stage)
-      → Every (Keeps SoundList) (stagesOf start target k stop m order)
-  stages-kept stop m d = every-stage start target k stop m (Keeps SoundList) (stage-kept stop m d)
+  calls-kept : (stop : Bool) (m : Limits) → EitherWay M m → (order : List Call)
+      → Every (Keeps SoundList) (callsOf start target k stop m order)
+  calls-kept stop m d = every-call start target k stop m (Keeps SoundList) (call-kept stop m d)
 
   search-kept : (at-rest at-target : Bool) → Keeps SoundList (firstSearch start target k at-rest at-target M)
   unfolding firstSearch resting moving
-  search-kept true true = first-keeps SoundList (stages-kept true (towardsTarget k M) (towards M k) itselfOrder)
-  search-kept true false = first-keeps SoundList (stages-kept true (towardsTarget k M) (towards M k) restingOrder)
-  search-kept false at-target = each-keeps SoundList (stages-kept false M (inl refl) movingOrder)
+  search-kept true true = first-keeps SoundList (calls-kept true (towardsTarget k M) (towards M k) itselfOrder)
+  search-kept true false = first-keeps SoundList (calls-kept true (towardsTarget k M) (towards M k) restingOrder)
+  search-kept false at-target = each-keeps SoundList (calls-kept false M (inl refl) movingOrder)
 
   two-step-kept : Keeps SoundList (twoStep start target k M)
   unfolding twoStep
-  two-step-kept = first-keeps SoundList (stages-kept true M (inl refl) twoStepOrder)
+  two-step-kept = first-keeps SoundList (calls-kept true M (inl refl) twoStepOrder)
 
   families-kept : Keeps SoundList (tryFamilies start target k M)
   unfolding tryFamilies

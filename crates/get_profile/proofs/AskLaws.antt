@@ -9,7 +9,7 @@ use Rattle.profile.specs.declared.Start.{Start}
 use Rattle.profile.specs.declared.Target.{Target}
 use Rattle.profile.specs.declared.Limits.{Limits}
 use Rattle.phase_times.specs.Constants.{constantsOf}
-use Rattle.get_profile.specs.Choices.{hasZeroLimit, endsAtRest, restsAtTarget}
+use Rattle.search.specs.Choices.{hasZeroLimit, endsAtRest, restsAtTarget, towardsTarget}
 use Rattle.phase_times.specs.declared.constants.Constants.{Constants}
 use Rattle.trees.specs.Tree.{Tree, done, bind, questions, StopsAtYes}
 use Rattle.trees.specs.InTurn.{upTo}
@@ -25,30 +25,30 @@ use Rattle.position_third_step1.specs.TimeAllNoneAcc0Acc1.{noneAcc0Acc1Tries}
 use Rattle.position_third_step1.specs.TimeAllSingleStep.{acceptance, refusal, singleStepTries}
 use Rattle.position_third_step1.proofs.FamilyLaws.{single-step-stops}
 use Rattle.block.specs.declared.Answer.{Answer}
-use Rattle.get_profile.specs.Stages.{itselfOrder, restingOrder, movingOrder, twoStepOrder, stageTries}
-use Rattle.get_profile.specs.GetProfile.{resting, moving, twoStep, towardsTarget, firstSearch, tryFamilies}
+use Rattle.get_profile.specs.Calls.{itselfOrder, restingOrder, movingOrder, twoStepOrder, callTries}
+use Rattle.get_profile.specs.GetProfile.{resting, moving, twoStep, firstSearch, tryFamilies}
 use Rattle.get_profile.specs.GetProfile.{getProfileBy, getProfile, firstTries, allTries}
 use Rattle.get_profile.proofs.FamiliesLaws.{none, also, SomeCount, StopsAtFirst, first-stops, each-asked}
 use Rattle.get_profile.proofs.FamiliesLaws.{none-asked, refuse, Asks, first-asks, none-asks-first}
-use Rattle.get_profile.proofs.StageLaws.{first-stages-ask, each-stages-ask, first-stages-stop}
+use Rattle.get_profile.proofs.CallLaws.{first-calls-ask, each-calls-ask, first-calls-stop}
 
 module _ (start : Start) (target : Target) (k : Constants) where
   -- ---- where every answer is no
   search-asks : (at-rest at-target : Bool) (m : Limits)
       → Asks (firstSearch start target k at-rest at-target m) (firstTries start target k at-rest at-target m)
   unfolding firstSearch resting moving
-  search-asks true true m = first-stages-ask start target k true (towardsTarget k m) itselfOrder
-  search-asks true false m = first-stages-ask start target k true (towardsTarget k m) restingOrder
-  search-asks false at-target m = each-stages-ask start target k false m movingOrder
+  search-asks true true m = first-calls-ask start target k true (towardsTarget k m) itselfOrder
+  search-asks true false m = first-calls-ask start target k true (towardsTarget k m) restingOrder
+  search-asks false at-target m = each-calls-ask start target k false m movingOrder
 
-  two-step-asks : (m : Limits) → Asks (twoStep start target k m) (stageTries start target k m twoStepOrder)
+  two-step-asks : (m : Limits) → Asks (twoStep start target k m) (callTries start target k m twoStepOrder)
   unfolding twoStep
-  two-step-asks m = first-stages-ask start target k true m twoStepOrder
+  two-step-asks m = first-calls-ask start target k true m twoStepOrder
 
   families-ask : (m : Limits)
       → Asks (tryFamilies start target k m)
       (firstTries start target k (endsAtRest target) (restsAtTarget start k) m
-      ++ (stageTries start target k m twoStepOrder ++ []))
+      ++ (callTries start target k m twoStepOrder ++ []))
   unfolding tryFamilies
   families-ask m =
       first-asks _ _ (search-asks (endsAtRest target) (restsAtTarget start k) m)
@@ -57,13 +57,13 @@ module _ (start : Start) (target : Target) (k : Constants) where
   -- ---- up to the first success
   rest-stops : (at-target : Bool) (m : Limits) → StopsAtFirst (firstSearch start target k true at-target m)
   unfolding firstSearch resting
-  rest-stops true m = first-stages-stop start target k (towardsTarget k m) itselfOrder
-  rest-stops false m = first-stages-stop start target k (towardsTarget k m) restingOrder
+  rest-stops true m = first-calls-stop start target k (towardsTarget k m) itselfOrder
+  rest-stops false m = first-calls-stop start target k (towardsTarget k m) restingOrder
 
   -- the two-step families, whatever was tried before them
   pub two-step-stops : (m : Limits) → StopsAtFirst (twoStep start target k m)
   unfolding twoStep
-  two-step-stops m = first-stages-stop start target k m twoStepOrder
+  two-step-stops m = first-calls-stop start target k m twoStepOrder
 
   -- all families of a resting target
   pub families-stop : (m : Limits) → endsAtRest target ≡ true → StopsAtFirst (tryFamilies start target k m)

@@ -9,34 +9,34 @@ use Rattle.profile.specs.declared.Start.{Start}
 use Rattle.profile.specs.declared.Target.{Target}
 use Rattle.profile.specs.declared.Limits.{Limits}
 use Rattle.phase_times.specs.Constants.{constantsOf}
-use Rattle.get_profile.specs.Choices.{hasZeroLimit, endsAtRest, restsAtTarget}
+use Rattle.search.specs.Choices.{hasZeroLimit, endsAtRest, restsAtTarget, towardsTarget}
 use Rattle.phase_times.specs.declared.constants.Constants.{Constants}
 use Rattle.trees.specs.Tree.{AtMost, ended}
 use Rattle.trees.proofs.TreeLaws.{at-most-more, at-most-bind}
 use Rattle.candidates.specs.List.{freshList}
 use Rattle.position_third_step1.proofs.FamilyLaws.{single-step-at-most}
-use Rattle.get_profile.specs.Stages.{itselfOrder, restingOrder, movingOrder, twoStepOrder}
-use Rattle.get_profile.specs.GetProfile.{resting, moving, twoStep, towardsTarget, firstSearch, tryFamilies}
+use Rattle.get_profile.specs.Calls.{itselfOrder, restingOrder, movingOrder, twoStepOrder}
+use Rattle.get_profile.specs.GetProfile.{resting, moving, twoStep, firstSearch, tryFamilies}
 use Rattle.get_profile.specs.GetProfile.{getProfileBy, getProfile}
 use Rattle.get_profile.proofs.FamiliesLaws.{AtMostFrom, first-at-most, no-first}
-use Rattle.get_profile.proofs.StageLaws.{first-stages-at-most, each-stages-at-most}
+use Rattle.get_profile.proofs.CallLaws.{first-calls-at-most, each-calls-at-most}
 
 module _ (start : Start) (target : Target) (k : Constants) where
   itself-at-most : (m : Limits) → AtMostFrom 12 (firstSearch start target k true true m)
   unfolding firstSearch
-  itself-at-most m c = first-stages-at-most start target k true (towardsTarget k m) itselfOrder c
+  itself-at-most m c = first-calls-at-most start target k true (towardsTarget k m) itselfOrder c
 
   resting-at-most : (m : Limits) → AtMostFrom 36 (resting start target k m)
   unfolding resting
-  resting-at-most m = first-stages-at-most start target k true m restingOrder
+  resting-at-most m = first-calls-at-most start target k true m restingOrder
 
   moving-at-most : (m : Limits) → AtMostFrom 36 (moving start target k m)
   unfolding moving
-  moving-at-most m = each-stages-at-most start target k false m movingOrder
+  moving-at-most m = each-calls-at-most start target k false m movingOrder
 
   two-step-at-most : (m : Limits) → AtMostFrom 18 (twoStep start target k m)
   unfolding twoStep
-  two-step-at-most m = first-stages-at-most start target k true m twoStepOrder
+  two-step-at-most m = first-calls-at-most start target k true m twoStepOrder
 
   search-at-most : (at-rest at-target : Bool) (m : Limits)
       → AtMostFrom 36 (firstSearch start target k at-rest at-target m)

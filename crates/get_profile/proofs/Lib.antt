@@ -2,7 +2,8 @@
 pub mod FamiliesLaws
 pub mod OrderLaws
 pub mod WayLaws
-pub mod StageLaws
+pub mod StageTie
+pub mod CallLaws
 pub mod SearchLaws
 pub mod AnswerLaws
 pub mod CheckCounts

@@ -1,5 +1,5 @@
 -- Which family is tried first, second, and so on: call by call, and in document 01's words. Assumes nothing.
-use mathlib.Core.Path.{_≡_, refl, sym, ap, _∙_}
+use mathlib.Core.Path.{_≡_, refl}
 use mathlib.Core.Bool.{true, false}
 use mathlib.Core.List.{List, [], _∷_, _++_, map}
 use Rattle.profile.specs.Limits.{swappedLimits}
@@ -7,26 +7,25 @@ use Rattle.profile.specs.declared.Start.{Start}
 use Rattle.profile.specs.declared.Target.{Target}
 use Rattle.profile.specs.declared.Limits.{Limits}
 use Rattle.phase_times.specs.declared.constants.Constants.{Constants}
-use Rattle.candidates.specs.declared.Candidates.{Candidates}
-use Rattle.position_third_step1.specs.CheckTree.{found}
 use Rattle.position_third_step1.specs.TimeAllVel.{timeAllVel}
 use Rattle.position_third_step1.specs.TimeAcc0Acc1.{timeAcc0Acc1}
 use Rattle.position_third_step1.specs.TimeAllNoneAcc0Acc1.{timeAllNoneAcc0Acc1}
 use Rattle.position_third_step1.specs.TwoStep.{timeAcc1VelTwoStep, timeAcc0TwoStep, timeVelTwoStep, timeNoneTwoStep}
-use Rattle.get_profile.specs.Families.{Family, eachOf, firstOf}
-use Rattle.get_profile.specs.Stages.{FamilyName, all-vel, none-acc0-acc1, acc0-acc1, none-two-step, acc0-two-step}
-use Rattle.get_profile.specs.Stages.{vel-two-step, acc1-vel-two-step}
-use Rattle.get_profile.specs.Stages.{Way, given, swapped, Stage, itselfOrder, restingOrder, movingOrder}
-use Rattle.get_profile.specs.Stages.{twoStepOrder}
-use Rattle.get_profile.specs.GetProfile.{towardsTarget, resting, moving, twoStep, firstSearch}
+use Rattle.search.specs.Choices.{towardsTarget}
+use Rattle.get_profile.specs.Families.{Search, eachOf, firstOf}
+use Rattle.get_profile.specs.Calls.{FamilyName, all-vel, none-acc0-acc1, acc0-acc1, none-two-step, acc0-two-step}
+use Rattle.get_profile.specs.Calls.{vel-two-step, acc1-vel-two-step}
+use Rattle.get_profile.specs.Calls.{Way, given, swapped, Call, itselfOrder, restingOrder, movingOrder}
+use Rattle.get_profile.specs.Calls.{twoStepOrder}
+use Rattle.get_profile.specs.GetProfile.{resting, moving, twoStep, firstSearch}
 
 -- ---- in document 01's words
 
 -- families in one direction; each family in both
-abbrev oneWay : Way → List FamilyName → List Stage
+abbrev oneWay : Way → List FamilyName → List Call
 oneWay w names = map (λ (n : FamilyName). (n, w)) names
 
-abbrev bothWays : List FamilyName → List Stage
+abbrev bothWays : List FamilyName → List Call
 bothWays [] = []
 bothWays (n ∷ ns) = (n, given) ∷ (n, swapped) ∷ bothWays ns
 
@@ -49,22 +48,20 @@ two-step-order = refl
 
 -- ---- call by call. s are the limits m swapped
 module _ (start : Start) (target : Target) (k : Constants) where
-  abbrev pub restingFamilies : (m s : Limits) → List Family
-  restingFamilies m s =
-      (λ c. timeAllVel c start target k m)
+  -- up to the first success
+  abbrev pub restingCalls : (m s : Limits) → Search
+  restingCalls m s =
+      firstOf
+      ((λ c. timeAllVel c start target k m)
       ∷ (λ c. timeAllNoneAcc0Acc1 c start target k m true)
       ∷ (λ c. timeAcc0Acc1 c start target k m true)
       ∷ (λ c. timeAllVel c start target k s)
       ∷ (λ c. timeAllNoneAcc0Acc1 c start target k s true)
       ∷ (λ c. timeAcc0Acc1 c start target k s true)
-      ∷ []
-
-  -- up to the first success
-  abbrev pub restingCalls : (m s : Limits) → Family
-  restingCalls m s = firstOf (restingFamilies m s)
+      ∷ [])
 
   -- all of them
-  abbrev pub movingCalls : (m s : Limits) → Family
+  abbrev pub movingCalls : (m s : Limits) → Search
   movingCalls m s =
       eachOf
       ((λ c. timeAllNoneAcc0Acc1 c start target k m false)
@@ -75,9 +72,11 @@ module _ (start : Start) (target : Target) (k : Constants) where
       ∷ (λ c. timeAllVel c start target k s)
       ∷ [])
 
-  abbrev pub twoStepFamilies : (m s : Limits) → List Family
-  twoStepFamilies m s =
-      (λ c. timeNoneTwoStep c start target k m)
+  -- up to the first success
+  abbrev pub twoStepCalls : (m s : Limits) → Search
+  twoStepCalls m s =
+      firstOf
+      ((λ c. timeNoneTwoStep c start target k m)
       ∷ (λ c. timeNoneTwoStep c start target k s)
       ∷ (λ c. timeAcc0TwoStep c start target k m)
       ∷ (λ c. timeAcc0TwoStep c start target k s)
@@ -85,11 +84,7 @@ module _ (start : Start) (target : Target) (k : Constants) where
       ∷ (λ c. timeVelTwoStep c start target k s)
       ∷ (λ c. timeAcc1VelTwoStep c start target k m)
       ∷ (λ c. timeAcc1VelTwoStep c start target k s)
-      ∷ []
-
-  -- up to the first success
-  abbrev pub twoStepCalls : (m s : Limits) → Family
-  twoStepCalls m s = firstOf (twoStepFamilies m s)
+      ∷ [])
 
   module _ (m : Limits) where
     pub itself-calls : firstSearch start target k true true m
@@ -108,17 +103,3 @@ module _ (start : Start) (target : Target) (k : Constants) where
     pub two-step-calls : twoStep start target k m ≡ twoStepCalls m (swappedLimits m)
     unfolding twoStep
     two-step-calls = refl
-
-    -- what the code's calls find
-    module _ {s : Limits} (e : s ≡ swappedLimits m) (c : Candidates) {r : Candidates} where
-      pub rests : r ≡ found (restingCalls m s c) → r ≡ found (resting start target k m c)
-      rests h =
-          h ∙ ap (λ (l : Limits). found (restingCalls m l c)) e ∙ ap (λ (f : Family). found (f c)) (sym resting-calls)
-
-      pub moves : r ≡ found (movingCalls m s c) → r ≡ found (moving start target k m c)
-      moves h =
-          h ∙ ap (λ (l : Limits). found (movingCalls m l c)) e ∙ ap (λ (f : Family). found (f c)) (sym moving-calls)
-
-      pub two-steps : r ≡ found (twoStepCalls m s c) → r ≡ found (twoStep start target k m c)
-      two-steps h =
-          h ∙ ap (λ (l : Limits). found (twoStepCalls m l c)) e ∙ ap (λ (f : Family). found (f c)) (sym two-step-calls)

@@ -13,7 +13,7 @@ use Rattle.profile.specs.declared.Target.{Target}
 use Rattle.profile.specs.declared.Limits.{Limits}
 use Rattle.profile_check.specs.declared.Checked.{Checked}
 use Rattle.phase_times.specs.Constants.{constantsOf}
-use Rattle.get_profile.specs.Choices.{hasZeroLimit, endsAtRest, restsAtTarget}
+use Rattle.search.specs.Choices.{hasZeroLimit, endsAtRest, restsAtTarget, towardsTarget}
 use Rattle.phase_times.specs.declared.constants.Constants.{Constants}
 use Rattle.trees.specs.Tree.{Tree, done, bind, run, AllNo}
 use Rattle.trees.proofs.TreeLaws.{all-no-bind, all-no-questions}
@@ -26,13 +26,13 @@ use Rattle.block.specs.Blocks.{planned, refused}
 use Rattle.block.specs.Selection.{removal, selected}
 use Rattle.block.specs.declared.Answer.{Answer}
 use Rattle.block.proofs.RefusalLaws.{selected-refusal}
-use Rattle.get_profile.specs.Stages.{itselfOrder, restingOrder, movingOrder, twoStepOrder}
-use Rattle.get_profile.specs.GetProfile.{resting, moving, twoStep, towardsTarget, firstSearch, tryFamilies}
+use Rattle.get_profile.specs.Calls.{itselfOrder, restingOrder, movingOrder, twoStepOrder}
+use Rattle.get_profile.specs.GetProfile.{resting, moving, twoStep, firstSearch, tryFamilies}
 use Rattle.get_profile.specs.GetProfile.{singleStepAnswer}
 use Rattle.get_profile.specs.GetProfile.{getProfileBy, getProfile, getProfileAnswer, NoneAccepted, EachRefused}
 use Rattle.get_profile.specs.GetProfile.{foundFor, FourStay}
 use Rattle.get_profile.proofs.FamiliesLaws.{none, also, NoneFound, first-none-found, each-none-found}
-use Rattle.get_profile.proofs.StageLaws.{stages-none-found}
+use Rattle.get_profile.proofs.CallLaws.{calls-none-found}
 use Rattle.get_profile.proofs.AskLaws.{nothing-counts, tree-is, asked-in-order}
 use Rattle.get_profile.proofs.SearchLaws.{single-step-is, searched-is}
 
@@ -97,14 +97,14 @@ module _ (start : Start) (target : Target) (k : Constants) where
       → NoneFound (firstSearch start target k at-rest at-target m)
   unfolding firstSearch resting moving
   search-none-found true true m =
-      first-none-found (stages-none-found start target k true (towardsTarget k m) itselfOrder)
+      first-none-found (calls-none-found start target k true (towardsTarget k m) itselfOrder)
   search-none-found true false m =
-      first-none-found (stages-none-found start target k true (towardsTarget k m) restingOrder)
-  search-none-found false at-target m = each-none-found (stages-none-found start target k false m movingOrder)
+      first-none-found (calls-none-found start target k true (towardsTarget k m) restingOrder)
+  search-none-found false at-target m = each-none-found (calls-none-found start target k false m movingOrder)
 
   two-step-none-found : (m : Limits) → NoneFound (twoStep start target k m)
   unfolding twoStep
-  two-step-none-found m = first-none-found (stages-none-found start target k true m twoStepOrder)
+  two-step-none-found m = first-none-found (calls-none-found start target k true m twoStepOrder)
 
   families-none-found : (m : Limits) → NoneFound (tryFamilies start target k m)
   unfolding tryFamilies

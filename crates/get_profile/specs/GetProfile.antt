@@ -14,7 +14,8 @@ use Rattle.profile.specs.declared.Target.{Target}
 use Rattle.profile.specs.declared.Limits.{Limits}
 use Rattle.profile_check.specs.declared.Checked.{Checked}
 use Rattle.phase_times.specs.Constants.{constantsOf}
-use Rattle.get_profile.specs.Choices.{hasZeroLimit, endsAtRest, pointsUp, restsAtTarget}
+use Rattle.search.specs.Choices.{hasZeroLimit, endsAtRest, restsAtTarget, towardsTarget}
+use Rattle.search.specs.Stages.{isFound}
 use Rattle.phase_times.specs.TimeAllSingleStep.{startsMoving, startsAccelerated}
 use Rattle.phase_times.specs.declared.constants.Constants.{Constants}
 use Rattle.trees.specs.Tree.{Tree, done, bind, run, AllNo}
@@ -29,34 +30,30 @@ use Rattle.block.specs.Blocks.{duration, noInterval, intervalFrom, blockOf, pla
 use Rattle.block.specs.Selection.{removal, selected}
 use Rattle.block.specs.declared.Interval.{Interval}
 use Rattle.block.specs.declared.Answer.{Answer}
-use Rattle.get_profile.specs.Families.{Family, eachOf, firstOf}
-use Rattle.get_profile.specs.Stages.{itselfOrder, restingOrder, movingOrder, twoStepOrder, stagesOf, stageTries}
-
--- the limits for the direction of pf - p0
-unfoldable pub towardsTarget : Constants → Limits → Limits
-towardsTarget k m = cond (pointsUp k) m (swappedLimits m)
+use Rattle.get_profile.specs.Families.{Search, eachOf, firstOf}
+use Rattle.get_profile.specs.Calls.{itselfOrder, restingOrder, movingOrder, twoStepOrder, callsOf, callTries}
 
 module _ (start : Start) (target : Target) (k : Constants) where
   -- a resting target: up to the first success, in the direction of m and then in the other
-  unfoldable pub resting : Limits → Family
-  resting m = firstOf (stagesOf start target k true m restingOrder)
+  unfoldable pub resting : Limits → Search
+  resting m = firstOf (callsOf start target k true m restingOrder)
 
   -- any other target: all families, both directions
-  unfoldable pub moving : Limits → Family
-  moving m = eachOf (stagesOf start target k false m movingOrder)
+  unfoldable pub moving : Limits → Search
+  moving m = eachOf (callsOf start target k false m movingOrder)
 
   -- with none found, the two-step families
-  unfoldable pub twoStep : Limits → Family
-  twoStep m = firstOf (stagesOf start target k true m twoStepOrder)
+  unfoldable pub twoStep : Limits → Search
+  twoStep m = firstOf (callsOf start target k true m twoStepOrder)
 
   -- what is tried first: for a resting target in the direction of pf - p0 first; a rest that is its own target tries
   -- one family, once
-  unfoldable pub firstSearch : (ends-at-rest rests-at-target : Bool) → Limits → Family
-  firstSearch true true m c = firstOf (stagesOf start target k true (towardsTarget k m) itselfOrder) c
+  unfoldable pub firstSearch : (ends-at-rest rests-at-target : Bool) → Limits → Search
+  firstSearch true true m c = firstOf (callsOf start target k true (towardsTarget k m) itselfOrder) c
   firstSearch true false m c = resting (towardsTarget k m) c
   firstSearch false rests-at-target m c = moving m c
 
-  unfoldable pub tryFamilies : Limits → Family
+  unfoldable pub tryFamilies : Limits → Search
   tryFamilies m = firstOf (firstSearch (endsAtRest target) (restsAtTarget start k) m ∷ twoStep m ∷ [])
 
 -- ---- the answer
@@ -68,6 +65,11 @@ afterPassing start q = cond (startsMoving start || startsAccelerated start) (int
 unfoldable pub singleStepAnswer : Start → Checked → Answer
 singleStepAnswer start d =
     cond (d .ok) (planned (blockOf (d .profile) (afterPassing start (d .profile)) noInterval)) (refused 4)
+
+-- the same of the list that the path's search found: its first profile
+unfoldable pub singleStepFrom : Start → Candidates → Answer
+singleStepFrom start c =
+    cond (isFound c) (planned (blockOf (slot c 0) (afterPassing start (slot c 0)) noInterval)) (refused 4)
 
 -- of all others: selection among the profiles that were accepted
 abbrev pub selectedFrom : Candidates → Answer
@@ -98,9 +100,9 @@ getProfileAnswer input m = run passes (getProfile input m)
 -- those of the first search
 module _ (start : Start) (target : Target) (k : Constants) where
   abbrev pub firstTries : (ends-at-rest rests-at-target : Bool) → Limits → List Try
-  firstTries true true m = stageTries start target k (towardsTarget k m) itselfOrder
-  firstTries true false m = stageTries start target k (towardsTarget k m) restingOrder
-  firstTries false rests-at-target m = stageTries start target k m movingOrder
+  firstTries true true m = callTries start target k (towardsTarget k m) itselfOrder
+  firstTries true false m = callTries start target k (towardsTarget k m) restingOrder
+  firstTries false rests-at-target m = callTries start target k m movingOrder
 
 -- all of them, in the order in which they are asked where each is refused
 unfoldable pub allTries : Profile → Limits → List Try
@@ -110,7 +112,7 @@ allTries input m =
     let k = constantsOf start target m in
     cond (hasZeroLimit m) (singleStepTries start target k m)
     (firstTries start target k (endsAtRest target) (restsAtTarget start k) m
-    ++ stageTries start target k m twoStepOrder)
+    ++ callTries start target k m twoStepOrder)
 
 -- the limits of a move as they are, or for the opposite direction
 abbrev pub EitherWay : Limits → Limits → Type 0

@@ -1,7 +1,6 @@
--- The definitions of `get_profile`: families put one after the other, the stages of a search, and which of them are
+-- The definitions of `get_profile`: families put one after the other, the calls of a search, and which of them are
 -- tried.
-pub mod Choices
 pub mod Families
-pub mod Stages
+pub mod Calls
 pub mod GetProfile
 pub mod Answered

@@ -1,10 +1,10 @@
 -- What every family keeps, and how many checks it makes at most. Assumes nothing.
 use Prim.Native.Nat.{ℕ, suc, _+_, _≤_, _<_}
-use mathlib.Core.Path.{_≡_, refl, _∙_}
-use mathlib.Core.Bool.{Bool, true, false, cond, not, true≢false, false≢true}
-use mathlib.Core.List.{List, [], _∷_}
+use mathlib.Core.Path.{_≡_, refl, ap, _∙_}
+use mathlib.Core.Bool.{Bool, true, false, cond, true≢false, false≢true}
+use mathlib.Core.List.{List, [], _∷_, _++_}
 use mathlib.Core.Logic.{_↔_}
-use native.Mathlib.Nat.{zero-add, suc-add}
+use native.Mathlib.Nat.{suc-add}
 use native.Mathlib.Omega.{arith}
 use lib.Ieee.{Float}
 use lib.ListN.{length}
@@ -18,7 +18,8 @@ use Rattle.profile.specs.declared.ReachedLimits.{ReachedLimits}
 use Rattle.profile_check.specs.declared.Checked.{Checked}
 use Rattle.trees.specs.Tree.{run, AtMost, AllNo, StopsAtYes}
 use Rattle.trees.specs.InTurn.{Bounded, none, one}
-use Rattle.trees.proofs.InTurnLaws.{finish-keeps, holds-after-no, finish-related, in-turn-at-most, in-turn-stops, bounded-more, bounded-le}
+use Rattle.trees.proofs.InTurnLaws.{finish-keeps, holds-after-no, finish-related, in-turn-at-most, in-turn-stops}
+use Rattle.trees.proofs.InTurnLaws.{bounded-more, bounded-le}
 use Rattle.candidates.specs.Try.{passes}
 use Rattle.candidates.specs.declared.Try.{Try}
 use Rattle.candidates.specs.List.{added}
@@ -27,19 +28,23 @@ use Rattle.candidates.specs.declared.Candidates.{Candidates}
 use Rattle.candidates.proofs.CheckLaws.{brake-of, accel-of}
 use Rattle.candidates.proofs.CountLaws.{added-counts, added-same}
 use Rattle.candidates.proofs.BoundaryLaws.{added-sound}
-use Rattle.phase_times.specs.TimeAcc0Acc1.{acc0Acc1Radicand, admitsAcc0Acc1Solution2, admitsAcc0Acc1Solution1}
-use Rattle.phase_times.specs.TimeAllSingleStep.{changesAcceleration, startsAccelerated, startsMoving, startsAtTarget, hasPhase3, timesSingleStepSolution1, timesSingleStepSolution2}
+use Rattle.phase_times.specs.TimeAllSingleStep.{changesAcceleration, startsAccelerated, startsMoving}
 use Rattle.phase_times.specs.declared.constants.Constants.{Constants}
-use Rattle.phase_times_quartic.specs.RootRange.{isSkipped}
-use Rattle.roots.specs.List.{rootsOf}
+use Rattle.phase_times_quartic.specs.declared.root_range.RootRange.{RootRange}
 use Rattle.position_third_step1.specs.CheckTree.{found, tries, tryOf, TryWith, onlyIf}
-use Rattle.position_third_step1.specs.TimeAllVel.{allVelTries}
-use Rattle.position_third_step1.specs.TimeAcc0Acc1.{acc0Acc1Solutions, acc0Acc1Tries}
-use Rattle.position_third_step1.specs.TimeAllNoneAcc0Acc1.{noneRoots, acc0Roots, acc1Roots, triesFor, rootTries, noneAcc0Acc1Tries}
-use Rattle.position_third_step1.specs.declared.none_acc0_acc1.RootTries.{RootTries}
+use Rattle.position_third_step1.specs.Slots.{Slot, always, held}
+use Rattle.position_third_step1.specs.TimeAllVel.{allVelSlots, allVelTries}
+use Rattle.position_third_step1.specs.TimeAcc0Acc1.{acc0Acc1Shared, acc0Acc1Slots, acc0Acc1Tries}
+use Rattle.position_third_step1.specs.TimeAllNoneAcc0Acc1.{noneShared, acc0Shared, acc1Shared, rootSlots}
+use Rattle.position_third_step1.specs.TimeAllNoneAcc0Acc1.{noneSlots, acc0Slots, acc1Slots}
+use Rattle.position_third_step1.specs.TimeAllNoneAcc0Acc1.{noneTries, acc0Tries, acc1Tries, noneAcc0Acc1Tries}
+use Rattle.position_third_step1.specs.TwoStep.{acc1VelTwoStepSlots, acc0TwoStepSlots}
+use Rattle.position_third_step1.specs.TwoStep.{velTwoStepSlots, noneTwoStepSlots}
+use Rattle.position_third_step1.specs.TwoStep.{acc1VelTwoStepTries, acc0TwoStepTries}
+use Rattle.position_third_step1.specs.TwoStep.{velTwoStepTries, noneTwoStepTries}
+use Rattle.position_third_step1.specs.TimeAllSingleStep.{jerklessTry, singleStepSlots, singleStepTries}
+use Rattle.position_third_step1.specs.TimeAllSingleStep.{refusal, acceptance, timeAllSingleStep}
 use Rattle.position_third_step1.proofs.RootLaws.{four-roots}
-use Rattle.position_third_step1.specs.TimeAllSingleStep.{jerklessTry, acceleratedTries, singleStepTries, refusal, acceptance, timeAllSingleStep}
-use Rattle.position_third_step1.specs.TwoStep.{acc1VelTwoStepTries, acc0TwoStepTries, velTwoStepTries, noneTwoStepTries}
 
 -- ---- from the list of a family's tries to its tree of checks
 
@@ -56,7 +61,8 @@ pub found-sound :
     → Sound G start target brake accel (found (tries stop c xs))
 found-sound {G} {start} {target} {brake} {accel} stop c of b s =
     finish-keeps passes added
-    (λ d x w yes (h : Sound G start target brake accel d). added-sound d x (h .ready) (w .start-is) (w .target-is) (h .counted) (of x w) yes)
+    (λ d x w yes (h : Sound G start target brake accel d).
+    added-sound d x (h .ready) (w .start-is) (w .target-is) (h .counted) (of x w) yes)
     stop c b s
 
 -- nothing counts at its end exactly where nothing did before it and no try is accepted
@@ -75,92 +81,101 @@ pub found-same : (stop : Bool) (c d : Candidates) (xs : List Try) → SameCounte
     → SameCounted (found (tries stop c xs)) (found (tries stop d xs))
 found-same stop c d xs h = finish-related passes added SameCounted added-same stop c d xs h
 
--- ---- the tries of each family
-only-if-bounded : {G : Try → Type 0} {n : ℕ} (g : Bool) (x : Try) {xs : List Try} → G x → Bounded G n xs
-    → Bounded G (suc n) (onlyIf g x xs)
+-- ---- the tries of each family: as many as it has slots, or fewer
+only-if-bounded : {G : Try → Type 0} {n : ℕ} (b : Bool) (x : Try) {xs : List Try} → G x → Bounded G n xs
+    → Bounded G (suc n) (onlyIf b x xs)
 unfolding onlyIf
-only-if-bounded true x p b = one p b
-only-if-bounded false x p b = bounded-more b
+only-if-bounded true x g gs = one g gs
+only-if-bounded false x g gs = bounded-more gs
 
-cond-bounded : {G : Try → Type 0} {n : ℕ} (b : Bool) (xs ys : List Try) → Bounded G n xs → Bounded G n ys
-    → Bounded G n (cond b xs ys)
-cond-bounded true xs ys p q = p
-cond-bounded false xs ys p q = q
+module _ {G : Try → Type 0} (of : List Float → Try) (each : (t : List Float) → G (of t)) where
+  all-bounded : (ss : List Slot) → Bounded G (length ss) (held of ss)
+  unfolding held
+  all-bounded [] = none
+  all-bounded (s ∷ ss) = only-if-bounded (s .0) (of (s .1)) (each (s .1)) (all-bounded ss)
+
+  held-bounded : {n : ℕ} (ss : List Slot) → length ss ≤ n → Bounded G n (held of ss)
+  held-bounded ss h = bounded-le (all-bounded ss) h
+
+cond-length : {n : ℕ} (b : Bool) (xs ys : List Slot) → length xs ≤ n → length ys ≤ n → length (cond b xs ys) ≤ n
+cond-length true xs ys p q = p
+cond-length false xs ys p q = q
+
+root-slots-length : (range : RootRange) (times : Float → List Float) (ts : List Float)
+    → length (rootSlots range times ts) ≡ length ts
+unfolding rootSlots
+root-slots-length range times [] = refl
+root-slots-length range times (t ∷ ts) = ap suc (root-slots-length range times ts)
+
+bounded-append : {G : Try → Type 0} {n l : ℕ} {xs ys : List Try} → Bounded G n xs → Bounded G l ys
+    → Bounded G (n + l) (xs ++ ys)
+bounded-append none b = bounded-le b (omega arith)
+bounded-append (one g gs) b = rw suc-add (one g (bounded-append gs b))
 
 module _ (start : Start) (target : Target) (k : Constants) (m : Limits) where
-  with-it : (reached : ReachedLimits) (t : List Float)
-      → TryWith start target (m .«j_max») m (tryOf start target m reached t)
-  with-it reached t = record { start-is = refl; target-is = refl; jerk-is = refl; limits-is = refl }
+  slots-bounded : {n : ℕ} (reached : ReachedLimits) (ss : List Slot) → length ss ≤ n
+      → Bounded (TryWith start target (m .«j_max») m) n (held (tryOf start target m reached) ss)
+  slots-bounded reached ss h =
+      held-bounded (tryOf start target m reached)
+      (λ t. record { start-is = refl; target-is = refl; jerk-is = refl; limits-is = refl }) ss h
 
   pub all-vel-bounded : Bounded (TryWith start target (m .«j_max») m) 4 (allVelTries start target k m)
-  unfolding allVelTries
-  all-vel-bounded = one (with-it _ _) (one (with-it _ _) (one (with-it _ _) (one (with-it _ _) none)))
+  unfolding allVelTries allVelSlots always
+  all-vel-bounded = slots-bounded _ _ (omega arith)
 
   pub acc1-vel-two-step-bounded : Bounded (TryWith start target (m .«j_max») m) 1 (acc1VelTwoStepTries start target k m)
-  unfolding acc1VelTwoStepTries
-  acc1-vel-two-step-bounded = one (with-it _ _) none
+  unfolding acc1VelTwoStepTries acc1VelTwoStepSlots always
+  acc1-vel-two-step-bounded = slots-bounded _ _ (omega arith)
 
   pub acc0-two-step-bounded : Bounded (TryWith start target (m .«j_max») m) 4 (acc0TwoStepTries start target k m)
-  unfolding acc0TwoStepTries
-  acc0-two-step-bounded = one (with-it _ _) (one (with-it _ _) (one (with-it _ _) (one (with-it _ _) none)))
+  unfolding acc0TwoStepTries acc0TwoStepSlots always
+  acc0-two-step-bounded = slots-bounded _ _ (omega arith)
 
   pub vel-two-step-bounded : Bounded (TryWith start target (m .«j_max») m) 2 (velTwoStepTries start target k m)
-  unfolding velTwoStepTries
-  vel-two-step-bounded = one (with-it _ _) (one (with-it _ _) none)
+  unfolding velTwoStepTries velTwoStepSlots always
+  vel-two-step-bounded = slots-bounded _ _ (omega arith)
 
   pub none-two-step-bounded : Bounded (TryWith start target (m .«j_max») m) 2 (noneTwoStepTries start target k m)
-  unfolding noneTwoStepTries
-  none-two-step-bounded = one (with-it _ _) (one (with-it _ _) none)
-
-  solutions-bounded : (h1 h2 h3 : Float)
-      → Bounded (TryWith start target (m .«j_max») m) 2 (acc0Acc1Solutions start target m h1 h2 h3)
-  unfolding acc0Acc1Solutions
-  solutions-bounded h1 h2 h3 =
-      only-if-bounded (admitsAcc0Acc1Solution2 m h1 h2 h3) _ (with-it _ _)
-      (only-if-bounded (admitsAcc0Acc1Solution1 m h1 h2 h3) _ (with-it _ _) none)
+  unfolding noneTwoStepTries noneTwoStepSlots always
+  none-two-step-bounded = slots-bounded _ _ (omega arith)
 
   pub acc0-acc1-bounded : Bounded (TryWith start target (m .«j_max») m) 2 (acc0Acc1Tries start target k m)
-  unfolding acc0Acc1Tries
-  acc0-acc1-bounded = cond-bounded (0ᶠ ≤ᶠ acc0Acc1Radicand start target k m) _ _ (solutions-bounded _ _ _) none
+  unfolding acc0Acc1Tries acc0Acc1Slots
+  acc0-acc1-bounded =
+      slots-bounded _ _
+      (cond-length (0ᶠ ≤ᶠ acc0Acc1Shared start target k m .h0) _ _ (omega arith) (omega arith))
 
-  roots-bounded : {n : ℕ} (s : RootTries) (ls : List Float) (xs : List Try)
-      → Bounded (TryWith start target (m .«j_max») m) n xs
-      → Bounded (TryWith start target (m .«j_max») m) (length ls + n) (triesFor start target k m s ls xs)
-  unfolding triesFor
-  roots-bounded s [] xs b = rw zero-add b
-  roots-bounded s (t ∷ ls) xs b =
-      rw suc-add (only-if-bounded (not (isSkipped (s .range) t)) _ (with-it _ _) (roots-bounded s ls xs b))
+  roots-bounded : (reached : ReachedLimits) (range : RootRange) (times : Float → List Float) (ts : List Float)
+      → length ts ≤ 4
+      → Bounded (TryWith start target (m .«j_max») m) 4 (held (tryOf start target m reached) (rootSlots range times ts))
+  roots-bounded reached range times ts h = slots-bounded reached _ (rw (root-slots-length range times ts) h)
 
-  polynom-bounded : {n : ℕ} (s : RootTries) (xs : List Try) → length (rootsOf (s .roots)) ≤ 4
-      → Bounded (TryWith start target (m .«j_max») m) n xs
-      → Bounded (TryWith start target (m .«j_max») m) (4 + n) (rootTries start target k m s xs)
-  polynom-bounded s xs h b = bounded-le (roots-bounded s (rootsOf (s .roots)) xs b) (omega arith)
+  pub none-bounded : Bounded (TryWith start target (m .«j_max») m) 4 (noneTries start target k m)
+  unfolding noneTries noneSlots noneShared
+  none-bounded = roots-bounded _ _ _ _ (four-roots _ _)
+
+  pub acc0-bounded : Bounded (TryWith start target (m .«j_max») m) 4 (acc0Tries start target k m)
+  unfolding acc0Tries acc0Slots acc0Shared
+  acc0-bounded = roots-bounded _ _ _ _ (four-roots _ _)
+
+  pub acc1-bounded : Bounded (TryWith start target (m .«j_max») m) 4 (acc1Tries start target k m)
+  unfolding acc1Tries acc1Slots acc1Shared
+  acc1-bounded = roots-bounded _ _ _ _ (four-roots _ _)
 
   pub none-acc0-acc1-bounded : Bounded (TryWith start target (m .«j_max») m) 12 (noneAcc0Acc1Tries start target k m)
-  unfolding noneAcc0Acc1Tries noneRoots acc0Roots acc1Roots
-  none-acc0-acc1-bounded =
-      polynom-bounded (noneRoots start target k m) _ (four-roots _ _)
-      (polynom-bounded (acc0Roots start target k m) _ (four-roots _ _)
-      (polynom-bounded {n = 0} (acc1Roots start target k m) _ (four-roots _ _) none))
+  unfolding noneAcc0Acc1Tries
+  none-acc0-acc1-bounded = bounded-append none-bounded (bounded-append acc0-bounded acc1-bounded)
 
 -- ---- time_all_single_step
 module _ (q : Profile) (start : Start) (target : Target) (k : Constants) (m : Limits) where
-  jerkless : (t : List Float) → TryWith start target 0ᶠ m (jerklessTry start target m t)
-  jerkless t = record { start-is = refl; target-is = refl; jerk-is = refl; limits-is = refl }
-
-  accelerated-bounded : (root : Float) → Bounded (TryWith start target 0ᶠ m) 2 (acceleratedTries start target m root)
-  unfolding acceleratedTries
-  accelerated-bounded root =
-      only-if-bounded (hasPhase3 (timesSingleStepSolution1 start root)) _ (jerkless _)
-      (only-if-bounded (hasPhase3 (timesSingleStepSolution2 start root)) _ (jerkless _) none)
-
   pub single-step-bounded : Bounded (TryWith start target 0ᶠ m) 2 (singleStepTries start target k m)
-  unfolding singleStepTries
+  unfolding singleStepTries singleStepSlots
   single-step-bounded =
-      cond-bounded (changesAcceleration start target) _ _ none
-      (cond-bounded (startsAccelerated start) _ _ (accelerated-bounded _)
-      (cond-bounded (startsMoving start) _ _ (one (jerkless _) none)
-      (bounded-more (only-if-bounded (startsAtTarget k) _ (jerkless _) none))))
+      held-bounded (jerklessTry start target m)
+      (λ t. record { start-is = refl; target-is = refl; jerk-is = refl; limits-is = refl }) _
+      (cond-length (changesAcceleration start target) _ _ (omega arith)
+      (cond-length (startsAccelerated start) _ _ (omega arith)
+      (cond-length (startsMoving start) _ _ (omega arith) (omega arith))))
 
   pub single-step-at-most : AtMost 2 (timeAllSingleStep q start target k m)
   single-step-at-most = in-turn-at-most acceptance true (refusal q) single-step-bounded
@@ -186,17 +201,14 @@ module _ (q : Profile) (start : Start) (target : Target) (k : Constants) (m : Li
         no = λ h. absurd (true≢false h);
       }
 
-  pub single-step-accepted : run passes (timeAllSingleStep q start target k m) .ok ≡ true
-      → AcceptedOf (TryWith start target 0ᶠ m) (q .brake) (q .accel) (run passes (timeAllSingleStep q start target k m) .profile)
-  single-step-accepted =
-      finish-keeps passes acceptance {P = Answered} accepted-answered true (refusal q) single-step-bounded refused-answered
-      .yes
+  end-answered : Answered (run passes (timeAllSingleStep q start target k m))
+  end-answered =
+      finish-keeps passes acceptance accepted-answered true (refusal q) single-step-bounded refused-answered
 
-  pub single-step-refused : run passes (timeAllSingleStep q start target k m) .ok ≡ false
-      → run passes (timeAllSingleStep q start target k m) .profile ≡ q
-  single-step-refused =
-      finish-keeps passes acceptance {P = Answered} accepted-answered true (refusal q) single-step-bounded refused-answered
-      .no
+  pub single-step-accepted : run passes (timeAllSingleStep q start target k m) .ok ≡ true
+      → AcceptedOf (TryWith start target 0ᶠ m) (q .brake) (q .accel)
+      (run passes (timeAllSingleStep q start target k m) .profile)
+  single-step-accepted = end-answered .yes
 
   -- it stops at its first success
   pub single-step-stops : StopsAtYes (λ (d : Checked). d .ok ≡ true) (timeAllSingleStep q start target k m)
@@ -205,9 +217,11 @@ module _ (q : Profile) (start : Start) (target : Target) (k : Constants) (m : Li
       (singleStepTries start target k m)
 
   -- it says no exactly where no try is accepted
-  pub single-step-none : (run passes (timeAllSingleStep q start target k m) .ok ≡ false) ↔ AllNo passes (timeAllSingleStep q start target k m)
+  pub single-step-none : (run passes (timeAllSingleStep q start target k m) .ok ≡ false)
+      ↔ AllNo passes (timeAllSingleStep q start target k m)
   single-step-none =
-      let e = holds-after-no passes acceptance (λ d. d .ok ≡ false) accepts true (refusal q) (singleStepTries start target k m) in
+      let xs = singleStepTries start target k m in
+      let e = holds-after-no passes acceptance (λ d. d .ok ≡ false) accepts true (refusal q) xs in
       (λ h. e .0 h .1, λ h. e .1 (refl, h))
     where
       accepts : (d : Checked) (x : Try) → acceptance d x .ok ≡ false → ⊥

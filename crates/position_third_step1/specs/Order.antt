@@ -12,7 +12,7 @@ use Rattle.phase_times_quartic.specs.RootRange.{isSkipped}
 use Rattle.phase_times_quartic.specs.declared.root_range.RootRange.{RootRange}
 use Rattle.roots.specs.List.{rootsOf}
 use Rattle.candidates.specs.declared.Try.{Try}
-use Rattle.position_third_step1.specs.declared.none_acc0_acc1.RootTries.{RootTries}
+use Rattle.position_third_step1.specs.declared.families.Shared.{Shared}
 
 -- a try's name, and phases that take no time
 abbrev pub Shape : Type 0
@@ -38,5 +38,5 @@ unfoldable pub keptRoots : RootRange → List Float → List Float
 keptRoots range [] = []
 keptRoots range (t ∷ ts) = cond (isSkipped range t) (keptRoots range ts) (t ∷ keptRoots range ts)
 
-abbrev pub rootNames : ReachedLimits → RootTries → List ReachedLimits
+abbrev pub rootNames : ReachedLimits → Shared → List ReachedLimits
 rootNames reached s = map (λ (t : Float). reached) (keptRoots (s .range) (rootsOf (s .roots)))

@@ -18,26 +18,34 @@ use Rattle.trees.specs.Tree.{Tree}
 use Rattle.trees.specs.InTurn.{inTurn}
 use Rattle.candidates.specs.Try.{profileOf}
 use Rattle.candidates.specs.declared.Try.{Try}
-use Rattle.position_third_step1.specs.CheckTree.{onlyIf}
+use Rattle.position_third_step1.specs.Slots.{Slot, held, numbers}
+use Rattle.position_third_step1.specs.declared.families.Shared.{Shared}
 
 -- its checks are made at jerk 0
 abbrev pub jerklessTry : Start → Target → Limits → List Float → Try
 jerklessTry start target m t = record { start = start; target = target; t = t; reached = None; jf = 0ᶠ; limits = m }
 
+-- h0 is the square root
+unfoldable pub singleStepShared : Start → Constants → Shared
+singleStepShared start k = numbers (sqrtOf (singleStepRadicand start k)) 0ᶠ 0ᶠ 0ᶠ
+
 -- at constant acceleration. A solution whose phase 3 is negative or a NaN is not put to the check
-unfoldable pub acceleratedTries : Start → Target → Limits → (root : Float) → List Try
-acceleratedTries start target m root =
+abbrev pub acceleratedSlots : Start → (root : Float) → List Slot
+acceleratedSlots start root =
     let t1 = timesSingleStepSolution1 start root in
     let t2 = timesSingleStepSolution2 start root in
-    onlyIf (hasPhase3 t1) (jerklessTry start target m t1) (onlyIf (hasPhase3 t2) (jerklessTry start target m t2) [])
+    (hasPhase3 t1, t1) ∷ (hasPhase3 t2, t2) ∷ []
 
 -- at constant acceleration, at constant velocity, at rest
+unfoldable pub singleStepSlots : Start → Target → Constants → Shared → List Slot
+singleStepSlots start target k s =
+    cond (changesAcceleration start target) []
+    (cond (startsAccelerated start) (acceleratedSlots start (s .h0))
+    (cond (startsMoving start) ((true, timesAtConstantSpeed start k) ∷ []) ((startsAtTarget k, zeroTimes) ∷ [])))
+
 unfoldable pub singleStepTries : Start → Target → Constants → Limits → List Try
 singleStepTries start target k m =
-    cond (changesAcceleration start target) []
-    (cond (startsAccelerated start) (acceleratedTries start target m (sqrtOf (singleStepRadicand start k)))
-    (cond (startsMoving start) (jerklessTry start target m (timesAtConstantSpeed start k) ∷ [])
-    (onlyIf (startsAtTarget k) (jerklessTry start target m zeroTimes) [])))
+    held (jerklessTry start target m) (singleStepSlots start target k (singleStepShared start k))
 
 -- a no, and the profile as it came
 abbrev pub refusal : Profile → Checked

@@ -1,17 +1,14 @@
-// The tries that reach no limit, a_max alone or a_min alone: one for each root of three quartics.
+// The tries that reach no limit, a_max alone or a_min alone: one for each root of a quartic that isn't skipped.
 
 ghost use mathlib.Core.Path.{_≡_};
-ghost use mathlib.Core.List.{_∷_};
-ghost use Prim.Native.Nat.{_+_, _≤_, _<_};
-ghost use lib.ListN.{drop};
+ghost use Prim.Native.Nat.{_<_};
+ghost use lib.ListN.{length};
+ghost use Rattle.doubles.specs.Operators.{at};
 ghost use Rattle.roots.specs.List.{rootsOf};
-ghost use Rattle.position_third_step1.specs.CheckTree.{found};
-ghost use Rattle.position_third_step1.specs.TimeAllNoneAcc0Acc1.{rootsIf, noneRoots, acc0Roots, acc1Roots};
-ghost use Rattle.position_third_step1.specs.TimeAllNoneAcc0Acc1.{nthRoots, rootTry, timeAllNoneAcc0Acc1};
-use crate::tries::try_of;
-use candidates::Candidates;
-use candidates::Try;
-use candidates::passes;
+ghost use Rattle.position_third_step1.specs.Slots.{slotAt};
+ghost use Rattle.position_third_step1.specs.TimeAllNoneAcc0Acc1.{rootsIf, noneShared, acc0Shared, acc1Shared};
+ghost use Rattle.position_third_step1.specs.TimeAllNoneAcc0Acc1.{noneSlots, acc0Slots, acc1Slots, rootHolds};
+use crate::families::Shared;
 use phase_times::constants::Constants;
 use phase_times_quartic::correction_acc1::corrected_acc1;
 use phase_times_quartic::quartic::Quartic;
@@ -35,31 +32,14 @@ use phase_times_quartic::time_none::polynom_none;
 use phase_times_quartic::time_none::range_none;
 use phase_times_quartic::time_none::times_none;
 use profile::Limits;
-use profile::ReachedLimits;
 use profile::Start;
 use profile::Target;
 use roots::Roots;
 use roots::solve_quart_monic_coeffs;
 
-pub enum Polynom {
-    NONE,
-    ACC0,
-    ACC1,
-}
-
-// The roots of a polynomial, the range that they are held to, and the numbers by which one is corrected and made to times.
-pub struct RootTries {
-    pub polynom: Polynom,
-    pub roots: Roots,
-    pub range: RootRange,
-    pub h0: f64,
-    pub h2: f64,
-    pub h3: f64,
-}
-
 // The roots in ascending order, if there is a solution.
 fn roots_if(has_solution: bool, q: Quartic) -> Roots
-    ensures { λ r. ⌜ (r ≡ rootsIf «has_solution» q) × (r .count ≤ 4) ⌝ }
+    ensures { λ r. ⌜ r ≡ rootsIf «has_solution» q ⌝ }
 {
     if has_solution {
         solve_quart_monic_coeffs(q.c0, q.c1, q.c2, q.c3).ascending()
@@ -68,24 +48,24 @@ fn roots_if(has_solution: bool, q: Quartic) -> Roots
     }
 }
 
-fn none_roots(start: Start, target: Target, k: Constants, m: Limits) -> RootTries
-    ensures { λ r. ⌜ (r ≡ noneRoots start target k m) × (r .roots .count ≤ 4) ⌝ }
+pub fn none_shared(start: Start, target: Target, k: Constants, m: Limits) -> Shared
+    ensures { λ r. ⌜ r ≡ noneShared start target k m ⌝ }
 {
     let h2 = h2_none(start, target, k, m);
     let roots = roots_if(true, polynom_none(start, target, k, m, h2));
     let range = range_none(start, target, m);
-    RootTries {
-        polynom: Polynom::NONE,
+    Shared {
         roots,
         range,
         h0: 0.0,
+        h1: 0.0,
         h2,
         h3: 0.0,
     }
 }
 
-fn acc0_roots(start: Start, target: Target, k: Constants, m: Limits) -> RootTries
-    ensures { λ r. ⌜ (r ≡ acc0Roots start target k m) × (r .roots .count ≤ 4) ⌝ }
+pub fn acc0_shared(start: Start, target: Target, k: Constants, m: Limits) -> Shared
+    ensures { λ r. ⌜ r ≡ acc0Shared start target k m ⌝ }
 {
     let h0 = h0_acc0(start, target, k, m);
     let h2 = h2_acc0(target, k, m);
@@ -93,18 +73,18 @@ fn acc0_roots(start: Start, target: Target, k: Constants, m: Limits) -> RootTrie
     let range = range_acc0(target, m);
     let roots = roots_if(polynom.shifted(range.t_min).has_solution(), polynom);
     let h3 = h3_acc0(start, target, k, m);
-    RootTries {
-        polynom: Polynom::ACC0,
+    Shared {
         roots,
         range,
         h0,
+        h1: 0.0,
         h2,
         h3,
     }
 }
 
-fn acc1_roots(start: Start, target: Target, k: Constants, m: Limits) -> RootTries
-    ensures { λ r. ⌜ (r ≡ acc1Roots start target k m) × (r .roots .count ≤ 4) ⌝ }
+pub fn acc1_shared(start: Start, target: Target, k: Constants, m: Limits) -> Shared
+    ensures { λ r. ⌜ r ≡ acc1Shared start target k m ⌝ }
 {
     let h0 = h0_acc1(start, target, k, m);
     let h2 = h2_acc1(start, k, m);
@@ -112,94 +92,89 @@ fn acc1_roots(start: Start, target: Target, k: Constants, m: Limits) -> RootTrie
     let range = range_acc1(start, m);
     let roots = roots_if(polynom.has_solution(), polynom);
     let h3 = h3_acc1(start, target, k, m);
-    RootTries {
-        polynom: Polynom::ACC1,
+    Shared {
         roots,
         range,
         h0,
+        h1: 0.0,
         h2,
         h3,
     }
 }
 
-// The polynomials in turn.
-fn nth_roots(n: usize, start: Start, target: Target, k: Constants, m: Limits) -> RootTries
-    ensures { λ r. ⌜ (r ≡ nthRoots start target k m n) × (r .roots .count ≤ 4) ⌝ }
+// How many roots there are.
+pub fn root_count(s: Shared) -> usize
+    ensures { λ r. ⌜ r ≡ length (rootsOf (s .roots)) ⌝ }
 {
-    if n == 0 {
-        return none_roots(start, target, k, m);
-    }
-    if n == 1 {
-        return acc0_roots(start, target, k, m);
-    }
-    acc1_roots(start, target, k, m)
+    let roots = s.roots;
+    let count = roots.count;
+    if count < 4 { count } else { 4 }
 }
 
-// The try of a root: corrected, and made to times.
-fn root_try(s: RootTries, start: Start, target: Target, k: Constants, m: Limits, t: f64) -> Try
-    ensures { λ r. ⌜ r ≡ rootTry start target k m s t ⌝ }
+// The root i, by constant indices, so that the list needs no memory.
+fn root_at(s: Shared, i: usize) -> f64
+    ensures { λ r. ⌜ (i < length (rootsOf (s .roots)) → r ≡ at (rootsOf (s .roots)) i) ⌝ }
 {
-    let polynom = s.polynom;
-    match polynom {
-        Polynom::NONE => {
-            let corrected = corrected_none(start, target, k, m, s.h2, t);
-            let times = times_none(start, target, m, s.h2, corrected);
-            try_of(start, target, m, ReachedLimits::None, times)
-        }
-        Polynom::ACC0 => {
-            let corrected = corrected_acc0(k, m, s.h0, s.h2, t);
-            let times = times_acc0(start, target, m, s.h3, corrected);
-            try_of(start, target, m, ReachedLimits::Acc0, times)
-        }
-        Polynom::ACC1 => {
-            let corrected = corrected_acc1(start, k, m, s.h0, s.h2, t);
-            let times = times_acc1(start, target, m, s.h3, corrected);
-            try_of(start, target, m, ReachedLimits::Acc1, times)
-        }
-    }
-}
-
-// The root i.
-fn root_at(roots: Roots, i: usize) -> f64
-    requires { ⌜ (i < roots .count) × (i < 4) ⌝ }
-    ensures { λ r. ⌜ drop i (rootsOf roots) ≡ r ∷ drop (i + 1) (rootsOf roots) ⌝ }
-{
+    let roots = s.roots;
     let values = roots.values;
-    values[i]
+    if i == 0 {
+        return values[0];
+    }
+    if i == 1 {
+        return values[1];
+    }
+    if i == 2 {
+        return values[2];
+    }
+    values[3]
 }
 
-pub fn time_all_none_acc0_acc1(
-    c: Candidates,
+// Whether the root i isn't skipped.
+pub fn root_holds(s: Shared, i: usize) -> bool
+    ensures { λ r. ⌜ (i < length (rootsOf (s .roots)) → r ≡ rootHolds s i) ⌝ }
+{
+    let range = s.range;
+    !range.skips(root_at(s, i))
+}
+
+pub fn none_times(
     start: Start,
     target: Target,
     k: Constants,
     m: Limits,
-    return_after_found: bool,
-) -> Candidates
-    ensures { λ r. ⌜ r ≡ found (timeAllNoneAcc0Acc1 c start target k m «return_after_found») ⌝ }
+    s: Shared,
+    i: usize,
+) -> [f64; 7]
+    ensures { λ r. ⌜ (i < length (noneSlots start target k m s) → r ≡ slotAt (noneSlots start target k m s) i .1) ⌝ }
 {
-    let mut d = c;
-    let mut n: usize = 0;
-    while n < 3 {
-        let s = nth_roots(n, start, target, k, m);
-        let roots = s.roots;
-        let range = s.range;
-        let count = roots.count;
-        let mut i: usize = 0;
-        while i < count {
-            let root = root_at(roots, i);
-            if !range.skips(root) {
-                let x = root_try(s, start, target, k, m, root);
-                if passes(x) {
-                    d = d.add_profile(x);
-                    if return_after_found {
-                        return d;
-                    }
-                }
-            }
-            i += 1;
-        }
-        n += 1;
-    }
-    d
+    let corrected = corrected_none(start, target, k, m, s.h2, root_at(s, i));
+    times_none(start, target, m, s.h2, corrected)
+}
+
+pub fn acc0_times(
+    start: Start,
+    target: Target,
+    k: Constants,
+    m: Limits,
+    s: Shared,
+    i: usize,
+) -> [f64; 7]
+    ensures { λ r. ⌜ (i < length (acc0Slots start target k m s) → r ≡ slotAt (acc0Slots start target k m s) i .1) ⌝ }
+{
+    let corrected = corrected_acc0(k, m, s.h0, s.h2, root_at(s, i));
+    times_acc0(start, target, m, s.h3, corrected)
+}
+
+pub fn acc1_times(
+    start: Start,
+    target: Target,
+    k: Constants,
+    m: Limits,
+    s: Shared,
+    i: usize,
+) -> [f64; 7]
+    ensures { λ r. ⌜ (i < length (acc1Slots start target k m s) → r ≡ slotAt (acc1Slots start target k m s) i .1) ⌝ }
+{
+    let corrected = corrected_acc1(start, k, m, s.h0, s.h2, root_at(s, i));
+    times_acc1(start, target, m, s.h3, corrected)
 }

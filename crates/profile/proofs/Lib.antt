@@ -2,3 +2,4 @@
 pub mod LayoutLaws
 pub mod MachineLaws
 pub mod Examples
+pub mod SwapLaws

@@ -2,35 +2,44 @@
 use Prim.Native.Nat.{_<_}
 use mathlib.Core.Path.{_≡_, refl, sym, ap, _∙_}
 use mathlib.Core.Bool.{false}
-use mathlib.Core.List.{List}
+use mathlib.Core.List.{List, _++_}
 use lib.Ieee.{Float}
 use Rattle.profile.specs.Boundary.{withBoundary, emptyProfile}
 use Rattle.profile.specs.declared.Start.{Start}
 use Rattle.profile.specs.declared.Target.{Target}
 use Rattle.profile.specs.declared.Limits.{Limits}
-use Rattle.roots.specs.List.{rootsOf}
+use Rattle.profile.specs.declared.ReachedLimits.the-variants.{None, Acc0}
 use Rattle.phase_times.specs.Constants.{constantsOf}
-use Rattle.get_profile.specs.Choices.{hasZeroLimit, endsAtRest}
+use Rattle.search.specs.Choices.{hasZeroLimit, endsAtRest}
 use Rattle.phase_times.specs.declared.constants.Constants.{Constants}
 use Rattle.candidates.specs.declared.Try.{Try}
 use Rattle.candidates.specs.List.{freshList}
 use Rattle.candidates.specs.declared.Candidates.{Candidates}
-use Rattle.position_third_step1.specs.CheckTree.{found, tries}
-use Rattle.position_third_step1.specs.TimeAllNoneAcc0Acc1.{triesFor, rootTries}
-use Rattle.position_third_step1.specs.declared.none_acc0_acc1.RootTries.{RootTries}
+use Rattle.position_third_step1.specs.CheckTree.{found, tries, tryOf}
+use Rattle.position_third_step1.specs.Slots.{held}
+use Rattle.position_third_step1.specs.TimeAllNoneAcc0Acc1.{noneShared, acc0Shared, noneTimes, acc0Times, rootSlots}
 use Rattle.get_profile.specs.GetProfile.{moving, tryFamilies, selectedFrom, getProfileAnswer}
 use Rattle.get_profile.proofs.FamiliesLaws.{first-finds}
 use Rattle.get_profile.proofs.SearchLaws.{to-motion, searched-is}
 use Rattle.planner.specs.Answers.{inputOf}
 use Rattle.planner.specs.declared.Move.{Move}
 
+-- the tries that a polynomial would have with these roots
+module _ (start : Start) (target : Target) (k : Constants) (m : Limits) where
+  abbrev pub noneWith : (roots : List Float) → List Try
+  noneWith roots =
+      let s = noneShared start target k m in
+      held (tryOf start target m None) (rootSlots (s .range) (noneTimes start target k m s) roots)
+
+  abbrev pub acc0With : (roots : List Float) → List Try
+  acc0With roots =
+      let s = acc0Shared start target k m in
+      held (tryOf start target m Acc0) (rootSlots (s .range) (acc0Times start target k m s) roots)
+
 -- what a polynomial's tries find, where its roots are known
-pub by-roots : (start : Start) (target : Target) (k : Constants) (m : Limits) (s : RootTries) (c : Candidates)
-    (xs : List Try) {roots : List Float} {d : Candidates}
-    → rootsOf (s .roots) ≡ roots → found (tries false c (triesFor start target k m s roots xs)) ≡ d
-    → found (tries false c (rootTries start target k m s xs)) ≡ d
-by-roots start target k m s c xs e h =
-    ap (λ (l : List Float). found (tries false c (triesFor start target k m s l xs))) e ∙ h
+pub by-roots : (made : List Float → List Try) (c : Candidates) (xs : List Try) {ts roots : List Float} {d : Candidates}
+    → ts ≡ roots → found (tries false c (made roots ++ xs)) ≡ d → found (tries false c (made ts ++ xs)) ≡ d
+by-roots made c xs e h = ap (λ (l : List Float). found (tries false c (made l ++ xs))) e ∙ h
 
 -- selection among what all families in both directions find
 pub moving-answer : (x : Move) {c : Candidates} → hasZeroLimit (x .limits) ≡ false → endsAtRest (x .target) ≡ false

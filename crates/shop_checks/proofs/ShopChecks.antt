@@ -20,7 +20,7 @@ use Rattle.trees.specs.Tree.{run, bind}
 use Rattle.candidates.specs.List.{stored, added, freshList}
 use Rattle.candidates.specs.Try.{passes, profileOf}
 use Rattle.phase_times.specs.Constants.{constantsOf}
-use Rattle.get_profile.specs.Choices.{hasZeroLimit, endsAtRest, pointsUp, restsAtTarget}
+use Rattle.search.specs.Choices.{hasZeroLimit, endsAtRest, pointsUp, restsAtTarget, towardsTarget}
 use Rattle.phase_times.specs.TimeAllSingleStep.{changesAcceleration, startsAccelerated, startsMoving, startsAtTarget}
 use Rattle.phase_times.specs.TimeAllSingleStep.{timesAtConstantSpeed}
 use Rattle.phase_times.specs.TimeAllVel.{t3Acc0Acc1Vel, timesAcc0Acc1Vel}
@@ -34,16 +34,18 @@ use Rattle.phase_times_quartic.specs.TimeNone.{h2None, polynomNone, newtonNone,
 use Rattle.phase_times_two_step.specs.ScaledRoot.{scaledRoot}
 use Rattle.phase_times_two_step.specs.TimeNoneTwoStep.{noneTwoStepRadicand, timesNoneTwoStep, timesNoneSingleStep}
 use Rattle.position_third_step1.specs.CheckTree.{onlyIf}
-use Rattle.position_third_step1.specs.TimeAllNoneAcc0Acc1.{rootsIf, noneRoots, acc0Roots, acc1Roots, reachedBy, timesBy}
-use Rattle.position_third_step1.specs.TimeAllNoneAcc0Acc1.{triesFor, noneAcc0Acc1Tries}
-use Rattle.position_third_step1.specs.TimeAllSingleStep.{singleStepTries, acceptance}
-use Rattle.position_third_step1.specs.TimeAllVel.{allVelTries}
-use Rattle.position_third_step1.specs.TwoStep.{noneTwoStepTries}
+use Rattle.position_third_step1.specs.Slots.{always, held, numbers}
+use Rattle.position_third_step1.specs.TimeAllNoneAcc0Acc1.{rootsIf, noneShared, acc0Shared, acc1Shared, rootSlots}
+use Rattle.position_third_step1.specs.TimeAllNoneAcc0Acc1.{noneSlots, acc0Slots, acc1Slots}
+use Rattle.position_third_step1.specs.TimeAllNoneAcc0Acc1.{noneTries, acc0Tries, acc1Tries, noneAcc0Acc1Tries}
+use Rattle.position_third_step1.specs.TimeAllSingleStep.{singleStepSlots, singleStepTries, acceptance}
+use Rattle.position_third_step1.specs.TimeAllVel.{allVelSlots, allVelTries}
+use Rattle.position_third_step1.specs.TwoStep.{noneTwoStepShared, noneTwoStepSlots, noneTwoStepTries}
 use Rattle.block.specs.Blocks.{total, duration, noInterval, intervalFrom, intervalBetween, blockOf, emptyBlock, planned}
 use Rattle.block.specs.Blocks.{refused, isBlocked, blockingOf}
 use Rattle.block.specs.Selection.{near, ofTwo, selected}
 use Rattle.get_profile.specs.Families.{unlessFound, firstOf}
-use Rattle.get_profile.specs.GetProfile.{towardsTarget, resting, twoStep, firstSearch, tryFamilies, afterPassing}
+use Rattle.get_profile.specs.GetProfile.{resting, twoStep, firstSearch, tryFamilies, afterPassing}
 use Rattle.get_profile.specs.GetProfile.{singleStepAnswer, getProfileBy, getProfile, getProfileAnswer}
 use Rattle.planner.specs.Answers.{finiteStart, finiteTarget, finiteLimits, finiteMove, wrongSign, wrongDuration}
 use Rattle.planner.specs.Answers.{answerOf}
@@ -67,17 +69,18 @@ unfolding recordBytes recordOf isMalformed recordMove moveOf double lineOf answe
     stretchFields decimal doubleFields hex hexDigit answerOf finiteMove finiteStart finiteTarget finiteLimits wrongSign
     wrongDuration withBoundary withPhases emptyProfile getProfileAnswer getProfile getProfileBy hasZeroLimit tryFamilies
     firstSearch endsAtRest restsAtTarget pointsUp towardsTarget resting twoStep firstOf unlessFound run bind inTurn
-    answered onlyIf added stored freshList profileOf filled swappedLimits constantsOf noneAcc0Acc1Tries noneRoots
-    rootsIf h2None polynomNone rangeNone triesFor reachedBy timesBy isSkipped timesNone correctedNone newtonNone
-    acc0Roots h0Acc0 h2Acc0 h3Acc0 polynomAcc0 rangeAcc0 shiftedQuartic hasSolution timesAcc0 correctedAcc0 newtonAcc0
-    acc1Roots h0Acc1 h2Acc1 h3Acc1 polynomAcc1 rangeAcc1 timesAcc1 correctedAcc1 noneTwoStepTries noneTwoStepRadicand
-    scaledRoot timesNoneTwoStep timesNoneSingleStep allVelTries t3Acc0Acc1Vel timesAcc0Acc1Vel singleStepTries
-    changesAcceleration startsAccelerated startsMoving startsAtTarget timesAtConstantSpeed acceptance singleStepAnswer
-    afterPassing selected ofTwo near total duration planned refused blockOf emptyBlock noInterval intervalFrom
-    intervalBetween blockingOf isBlocked checked passes accepted timesPass phasesPass sumPasses zeroPasses zerosPass
-    endPasses rowsPass sums jerkIf jerks rowAfter storedIf outerRow middleRow rowsOf boundsOf directionOf quarticOf
-    withQuadratic inserted ascendingOf sortedFrom placed sqrtOf cbrtOf thirdAngleCosineOf thirdAngleSineOf ofBits add
-    sub mul div neg lt le eq absᶠ toBits
+    answered onlyIf added stored freshList profileOf filled swappedLimits constantsOf noneAcc0Acc1Tries noneTries
+    noneSlots noneShared rootsIf h2None polynomNone rangeNone held rootSlots isSkipped timesNone correctedNone
+    newtonNone acc0Tries acc0Slots acc0Shared h0Acc0 h2Acc0 h3Acc0 polynomAcc0 rangeAcc0 shiftedQuartic hasSolution
+    timesAcc0 correctedAcc0 newtonAcc0 acc1Tries acc1Slots acc1Shared h0Acc1 h2Acc1 h3Acc1 polynomAcc1 rangeAcc1
+    timesAcc1 correctedAcc1 noneTwoStepTries noneTwoStepSlots noneTwoStepShared numbers noneTwoStepRadicand scaledRoot
+    timesNoneTwoStep timesNoneSingleStep always allVelTries allVelSlots t3Acc0Acc1Vel timesAcc0Acc1Vel singleStepTries
+    singleStepSlots changesAcceleration startsAccelerated startsMoving startsAtTarget timesAtConstantSpeed acceptance
+    singleStepAnswer afterPassing selected ofTwo near total duration planned refused blockOf emptyBlock noInterval
+    intervalFrom intervalBetween blockingOf isBlocked checked passes accepted timesPass phasesPass sumPasses zeroPasses
+    zerosPass endPasses rowsPass sums jerkIf jerks rowAfter storedIf outerRow middleRow rowsOf boundsOf directionOf
+    quarticOf withQuadratic inserted ascendingOf sortedFrom placed sqrtOf cbrtOf thirdAngleCosineOf thirdAngleSineOf
+    ofBits add sub mul div neg lt le eq absᶠ toBits
 shop-checks =
     record {
       line-1 = by-move 1 move-1 refl refl;

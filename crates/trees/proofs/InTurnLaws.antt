@@ -153,6 +153,20 @@ module _ {Q S : Type 0} (add : S → Q → S) where
   in-turn-stops P h s [] = tt
   in-turn-stops P h s (q ∷ qs) = (h s q, in-turn-stops P h s qs)
 
+-- ---- two ways to keep the first yes: what holds of both states at first, and after the same yes, holds at the end
+module _ {Q S T : Type 0} (answer : Q → Bool) (add : S → Q → S) (add′ : T → Q → T) (R : S → T → Type 0) where
+  pub stops-related : (s : S) (t : T) → R s t → ((q : Q) → R (add s q) (add′ t q)) → (qs : List Q)
+      → R (run answer (inTurn add true s qs)) (run answer (inTurn add′ true t qs))
+  unfolding run inTurn answered
+  stops-related s t r h [] = r
+  stops-related s t r h (q ∷ qs) = by (stops-related s t r h qs) (answer q)
+    where
+      by : R (run answer (inTurn add true s qs)) (run answer (inTurn add′ true t qs))
+          → (yes : Bool) → R (run answer (answered add true yes s q (λ z. inTurn add true z qs)))
+          (run answer (answered add′ true yes t q (λ z. inTurn add′ true z qs)))
+      by e false = e
+      by e true = h q
+
 -- without `stop` all are asked
 pub up-to-end : {Q : Type 0} (answer : Q → Bool) (qs : List Q) → upTo false answer qs ≡ qs
 unfolding upTo

@@ -1,3 +1,4 @@
 -- The laws of `trees`.
 pub mod TreeLaws
 pub mod InTurnLaws
+pub mod StageLaws

@@ -252,6 +252,22 @@ pub struct FamilyCall {
     pub counted: usize,
 }
 
+impl FamilyCall {
+    /// The call as plans make it: a search that ends with the first profile found calls a family only where none counts.
+    /// Such are those with `return_after_found`, and the two-step families; `time_all_vel` also stands in the other.
+    pub fn as_planned(self) -> FamilyCall {
+        let guarded = match self.family {
+            0 | 7 => false,
+            1 | 2 => self.return_after_found,
+            _ => true,
+        };
+        FamilyCall {
+            counted: if guarded { 0 } else { self.counted },
+            ..self
+        }
+    }
+}
+
 /// A call of the selection, and of `is_blocked` for what it selects and for a plan given.
 #[derive(Clone, Copy, Debug, PartialEq)]
 pub struct BlockCall {

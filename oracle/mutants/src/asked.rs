@@ -133,12 +133,15 @@ impl Asked {
             return;
         }
         match self {
-            Asked::Family(call) => match random.below(4) {
-                0 => call.opposite ^= true,
-                1 => call.return_after_found ^= true,
-                2 => call.family = random.below(8) as usize,
-                _ => call.counted = random.below(6) as usize,
-            },
+            Asked::Family(call) => {
+                match random.below(4) {
+                    0 => call.opposite ^= true,
+                    1 => call.return_after_found ^= true,
+                    2 => call.family = random.below(8) as usize,
+                    _ => call.counted = random.below(6) as usize,
+                }
+                *call = call.as_planned();
+            }
             Asked::Check(call) => match random.below(3) {
                 0 => call.limits = random.below(8) as usize,
                 1 => call.control_signs ^= 1,

@@ -42,7 +42,7 @@ fn record(asked: &Move) -> Asked {
 
 fn family_call(random: &mut Random, asked: Move) -> Asked {
     let zero = asked.limits.j_max == 0.0;
-    Asked::Family(FamilyCall {
+    let call = FamilyCall {
         asked,
         family: if zero {
             7
@@ -56,7 +56,8 @@ fn family_call(random: &mut Random, asked: Move) -> Asked {
         } else {
             0
         },
-    })
+    };
+    Asked::Family(call.as_planned())
 }
 
 /// Numbers at and beside the thresholds.

@@ -72,7 +72,7 @@ fn a_seed_always_means_the_same_inputs() {
         write_check(&mut bytes, &checks::check(&mut random)).unwrap();
         write_family_call(&mut bytes, &families::call(&mut random)).unwrap();
     }
-    assert_eq!(digest(&bytes), 0xF4B11A1967F918D3);
+    assert_eq!(digest(&bytes), 0xA44A1FB577BF62F5);
 }
 
 #[test]

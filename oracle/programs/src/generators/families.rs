@@ -92,6 +92,7 @@ pub fn call(random: &mut Random) -> FamilyCall {
         return_after_found,
         counted,
     }
+    .as_planned()
 }
 
 fn any_move(random: &mut Random) -> Move {

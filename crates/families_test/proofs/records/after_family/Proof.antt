@@ -2,6 +2,8 @@
 use mathlib.Core.Path.{sym, _∙_}
 use borrow.Author.Tests.{ne-eqb}
 use Rattle.families_test.specs.Records.{afterFamily}
+use Rattle.families_test.proofs.StageLaws.{all-vel, acc1-vel-two-step, acc0-two-step}
+use Rattle.families_test.proofs.StageLaws.{vel-two-step, none-two-step}
 use borrow.Author.Needs.{needs}
 use Rattle.families_test.proofs.records.after_family.Statement.{statement}
 use Rattle.families_test.proofs.records.after_family.Tie as tie
@@ -14,7 +16,7 @@ returns c =
     let after-limits = after-directed .before .before in
     rw (
       sym (family-read .byte-at .ensures .0) ∙ c .before .match .keys1,
-      c .time-all-vel .ensures,
+      all-vel _ _ _ _ _ (c .search .ensures),
       after-directed .before .new .ensures,
       after-directed .directed .ensures,
       after-limits .before .before .start-of .ensures,
@@ -30,7 +32,7 @@ returns-2 c =
     let after-limits = after-directed .before .before in
     rw (
       sym (family-read .byte-at .ensures .0) ∙ c .before .match .keys2,
-      c .time-acc0-acc1 .ensures,
+      c .after-acc0-acc1 .ensures,
       c .before .before .byte-at2 .ensures .0,
       after-directed .before .new .ensures,
       after-directed .directed .ensures,
@@ -47,7 +49,7 @@ returns-3 c =
     let after-limits = after-directed .before .before in
     rw (
       sym (family-read .byte-at .ensures .0) ∙ c .before .match .keys3,
-      c .time-all-none-acc0-acc1 .ensures,
+      c .after-none-acc0-acc1 .ensures,
       c .before .before .byte-at2 .ensures .0,
       after-directed .before .new .ensures,
       after-directed .directed .ensures,
@@ -64,7 +66,7 @@ returns-4 c =
     let after-limits = after-directed .before .before in
     rw (
       sym (family-read .byte-at .ensures .0) ∙ c .before .match .keys4,
-      c .time-acc1-vel-two-step .ensures,
+      acc1-vel-two-step _ _ _ _ _ (c .search2 .ensures),
       after-directed .before .new .ensures,
       after-directed .directed .ensures,
       after-limits .before .before .start-of .ensures,
@@ -80,7 +82,7 @@ returns-5 c =
     let after-limits = after-directed .before .before in
     rw (
       sym (family-read .byte-at .ensures .0) ∙ c .before .match .keys5,
-      c .time-acc0-two-step .ensures,
+      acc0-two-step _ _ _ _ _ (c .search3 .ensures),
       after-directed .before .new .ensures,
       after-directed .directed .ensures,
       after-limits .before .before .start-of .ensures,
@@ -96,7 +98,7 @@ returns-6 c =
     let after-limits = after-directed .before .before in
     rw (
       sym (family-read .byte-at .ensures .0) ∙ c .before .match .keys6,
-      c .time-vel-two-step .ensures,
+      vel-two-step _ _ _ _ _ (c .search4 .ensures),
       after-directed .before .new .ensures,
       after-directed .directed .ensures,
       after-limits .before .before .start-of .ensures,
@@ -119,7 +121,7 @@ returns-7 c =
       ne-eqb _ _ (r .0 .0 .1),
       ne-eqb _ _ (r .0 .1),
       ne-eqb _ _ (r .1),
-      c .time-none-two-step .ensures,
+      none-two-step _ _ _ _ _ (c .search5 .ensures),
       after-directed .before .new .ensures,
       after-directed .directed .ensures,
       after-limits .before .before .start-of .ensures,

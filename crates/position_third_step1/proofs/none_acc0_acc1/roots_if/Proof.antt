@@ -1,22 +1,17 @@
 -- `position_third_step1::none_acc0_acc1::roots_if` meets its contract. Assumes nothing.
-use native.Mathlib.Omega.{arith}
 use Rattle.position_third_step1.specs.TimeAllNoneAcc0Acc1.{rootsIf}
-use Rattle.position_third_step1.proofs.RootLaws.{quartic-count}
 use borrow.Author.Needs.{needs}
 use Rattle.position_third_step1.proofs.none_acc0_acc1.roots_if.Statement.{statement}
 use Rattle.position_third_step1.proofs.none_acc0_acc1.roots_if.Tie as tie
 
 returns : tie.Need-returns
 unfolding rootsIf
-returns c = (
-  rw (c .before .before .if1 .taken, ← c .before .solve-quart-monic-coeffs .ensures)
-      (c .ascending .ensures),
-  rw (c .ascending .ensures, c .before .solve-quart-monic-coeffs .ensures) (quartic-count _ _ _ _),
-)
+returns c =
+    rw (c .before .before .if1 .taken, ← c .before .solve-quart-monic-coeffs .ensures) (c .ascending .ensures)
 
 returns-2 : tie.Need-returns-2
 unfolding rootsIf
-returns-2 c = (rw (c .before .if1 .left) (c .new .ensures), rw (c .new .ensures) (omega arith))
+returns-2 c = rw (c .before .if1 .left) (c .new .ensures)
 
 pub roots-if-spec : {M : Type 1} → statement M
 roots-if-spec =

@@ -1,0 +1,3 @@
+-- Laws of `search`.
+pub mod FoundLaws
+pub mod PlaceLaws

@@ -1,0 +1,3 @@
+-- The definitions of `search`: by which conditions families and directions are chosen, and the stages of a move.
+pub mod Choices
+pub mod Stages
