@@ -1,25 +1,9 @@
 // Plans each move of standard input and writes a line for it, as soon as its record is whole. The records and the lines
-// are document 01's; crate `moves` says which bytes answer which.
-use moves::LINE_LENGTH;
-use moves::RECORD_LENGTH;
-use moves::reply_to;
+// are document 01's; crates `moves` and `move_stream` say which bytes answer which.
+use move_stream::answer_records;
 
-// Answers record number n, and says whether another may follow and the line could be written.
-fn answer(n: u64) -> bool {
-    let mut bytes = [0u8; RECORD_LENGTH];
-    let count = io::read_full(0, &mut bytes);
-    let mut line = [0u8; LINE_LENGTH];
-    let reply = reply_to(n, &bytes[..count], &mut line);
-    let length = reply.length;
-    io::write_all(1, &line[..length]) & reply.goes_on
-}
-
-// The bound only shows that the loop ends: no input is as long.
 fn main() {
     if io::write_all(1, b"plan 1\n") {
-        let mut n: u64 = 1;
-        while n < u64::MAX && answer(n) {
-            n += 1;
-        }
+        answer_records(false);
     }
 }

@@ -1,0 +1,4 @@
+-- Laws of `move_stream`.
+pub mod KeepLaws
+pub mod BatchLaws
+pub mod PieceLaws

@@ -1,0 +1,2 @@
+-- The definitions of `move_stream`: the lines of many records.
+pub mod Batches
