@@ -60,11 +60,11 @@ impl Singles {
         }
     }
 
-    /// The middle one of the moves' nanoseconds.
-    pub fn middle(&self) -> u64 {
+    /// The nanoseconds that all moves but one in `of` don't exceed.
+    pub fn all_but_one_in(&self, of: usize) -> u64 {
         let mut sorted = self.least.clone();
         sorted.sort_unstable();
-        sorted[sorted.len() / 2]
+        sorted[sorted.len() - 1 - sorted.len() / of]
     }
 
     /// The move that took longest, and its nanoseconds.

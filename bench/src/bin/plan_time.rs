@@ -52,8 +52,17 @@ fn means(moves: &[Move], numbers: &[[f64; MOVE_LENGTH]], rounds: usize) -> [f64;
     times.map(|times| times.each())
 }
 
-/// The worst single plan of the library and of the Rust, and what the clock alone takes.
-fn worst(moves: &[Move], numbers: &[[f64; MOVE_LENGTH]], rounds: usize) -> ([(usize, u64); 2], u64) {
+/// The times of single plans, each of the library and of the Rust.
+struct Tails {
+    /// The 99.9th percentile.
+    percentile: [u64; 2],
+    /// The move that took longest, and its time.
+    worst: [(usize, u64); 2],
+    /// What the clock alone takes.
+    clock: u64,
+}
+
+fn tails(moves: &[Move], numbers: &[[f64; MOVE_LENGTH]], rounds: usize) -> Tails {
     let mut library = Library::new();
     let mut times = [Singles::new(moves.len()), Singles::new(moves.len()), Singles::new(moves.len())];
     for _ in 0..rounds {
@@ -62,7 +71,11 @@ fn worst(moves: &[Move], numbers: &[[f64; MOVE_LENGTH]], rounds: usize) -> ([(us
         times[2].round(|i| i as u64);
     }
     let [library, rust, clock] = &times;
-    ([library.worst(), rust.worst()], clock.middle())
+    Tails {
+        percentile: [library.all_but_one_in(1000), rust.all_but_one_in(1000)],
+        worst: [library.worst(), rust.worst()],
+        clock: clock.all_but_one_in(2),
+    }
 }
 
 fn compare(seed: u64, rounds: usize) {
@@ -79,8 +92,11 @@ fn compare(seed: u64, rounds: usize) {
     println!("{:<28} {in_rust:>9.0} ns a plan, {:.0} %", "roots in the Rust", share(in_rust, rust));
     let rest = (library - in_library) / (rust - in_rust);
     println!("{:<28} {:>9.0} ns a plan, and {:.0} in the Rust: ratio {rest:.2}", "all but roots", library - in_library, rust - in_rust);
-    let (places, clock) = worst(&moves, &numbers, rounds);
-    for (name, (place, time)) in ["library", "Rust"].into_iter().zip(places) {
+    let Tails { percentile, worst, clock } = tails(&moves, &numbers, rounds);
+    for (name, time) in ["library", "Rust"].into_iter().zip(percentile) {
+        println!("{:<28} {time:>9} ns (the clock's {clock} included)", format!("99.9 % of plans, {name}"));
+    }
+    for (name, (place, time)) in ["library", "Rust"].into_iter().zip(worst) {
         println!("{:<28} {time:>9} ns, move {place} (the clock's {clock} included)", format!("worst plan, {name}"));
     }
 }
