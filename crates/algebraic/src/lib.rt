@@ -4,7 +4,7 @@ pub mod digits;
 pub mod order;
 
 // A real number between 2^53 and 2^54.
-#[derive(Drop)]
+#[derive(Clone, Copy)]
 pub enum Algebraic {
     // The cube root of m * 2^(107 + o).
     CubeRoot(u64, u64),

@@ -64,7 +64,7 @@ fn correction(u: f64, f: f64) -> f64
 
 // With (1 + v) / 2 for the cosine, v²(3 + v) = 2(1 + t). Here v is u + d, where u has 23 digits and d is small, and u²
 // is the sum of square, of 26 digits, and rest.
-#[derive(Drop)]
+#[derive(Clone, Copy)]
 pub struct Estimate {
     pub u: f64,
     pub d: f64,

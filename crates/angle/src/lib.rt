@@ -4,7 +4,7 @@ ghost use Rattle.angle.specs.Arguments.{Taken, size_of};
 
 pub mod candidate;
 
-#[derive(Drop)]
+#[derive(Clone, Copy)]
 pub enum Argument {
     // The cosine and the sine themselves: t is not from -1 to 1, or is one of the two, or is near 0.
     Known(f64, f64),
@@ -36,7 +36,7 @@ pub fn classify(t: f64) -> Argument
 }
 
 // The size of t in units of 2^-128: high * 2^64 + low.
-#[derive(Drop)]
+#[derive(Clone, Copy)]
 pub struct Size {
     pub high: u64,
     pub low: u64,

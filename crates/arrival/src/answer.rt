@@ -5,7 +5,7 @@ ghost use Rattle.arrival.specs.Arrivals.{arrival_number, arrival_time, arrival_a
 
 // When all axes can arrive, and the lowest axis that has that time as its shortest duration or as a right end; or that
 // the slices aren't those of 1 to 8 plans; or that no finite time is free for all.
-#[derive(Drop)]
+#[derive(Clone, Copy)]
 pub enum Arrival {
     At(f64, u64),
     Malformed,

@@ -10,7 +10,7 @@ pub const AXES_MOST: usize = 8;
 pub const ENDS_LENGTH: usize = 4;
 
 // Its shortest duration, and the ends of its two stretches.
-#[derive(Drop)]
+#[derive(Clone, Copy)]
 pub struct Axis {
     pub duration: f64,
     pub a_left: f64,

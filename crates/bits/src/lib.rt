@@ -3,7 +3,7 @@ ghost use Rattle.std.specs.Prelude.{◌<◌};
 ghost use Rattle.bits.specs.Fields.{Normalized};
 
 // A significand of 53 binary digits, and its exponent: the magnitude is significand * 2^(exponent - 2096).
-#[derive(Drop)]
+#[derive(Clone, Copy)]
 pub struct Parts {
     pub significand: u64,
     pub exponent: u64,

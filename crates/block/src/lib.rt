@@ -11,7 +11,7 @@ mod select; // select.rt: calculate_block
 mod removal; // removal.rt: which of four profiles goes
 
 // A blocked stretch: nothing, between two times, or from a time on.
-#[derive(Drop)]
+#[derive(Clone, Copy)]
 pub enum Stretch {
     Nothing,
     Between(f64, f64),
@@ -19,14 +19,14 @@ pub enum Stretch {
 }
 
 // A stretch and the profile beside it: the far one of a stretch between two times, else the empty profile.
-#[derive(Drop)]
+#[derive(Clone, Copy)]
 pub struct Interval {
     pub stretch: Stretch,
     pub profile: Profile,
 }
 
 // The duration of the shortest accepted profile, that profile, and two stretches, which aren't sorted and can overlap.
-#[derive(Drop)]
+#[derive(Clone, Copy)]
 pub struct Block {
     pub t_min: f64,
     pub p_min: Profile,
@@ -35,14 +35,14 @@ pub struct Block {
 }
 
 // A plan, with 0, or the number of the refusal, with the empty plan.
-#[derive(Drop)]
+#[derive(Clone, Copy)]
 pub struct Answer {
     pub refusal: u64,
     pub block: Block,
 }
 
 // Whether a time is blocked. A time that isn't finite is refused.
-#[derive(Drop)]
+#[derive(Clone, Copy)]
 pub enum Blocking {
     Blocked,
     Free,
@@ -50,7 +50,7 @@ pub enum Blocking {
 }
 
 // The index of the least total of those seen from the front, and that total.
-#[derive(Drop)]
+#[derive(Clone, Copy)]
 struct Fastest {
     index: usize,
     total: f64,

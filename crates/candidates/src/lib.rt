@@ -7,7 +7,7 @@ ghost use Rattle.candidates.specs.List.{fresh_list};
 use profile::{ControlSigns, Limits, Profile, ReachedLimits, Start, Target};
 
 // Seven times that a family of step 1 puts to the check, from a start to a target.
-#[derive(Drop)]
+#[derive(Clone, Copy)]
 pub struct Try {
     pub start: Start,
     pub target: Target,
@@ -18,7 +18,7 @@ pub struct Try {
 }
 
 // Six profiles, of which the first `current_index` count. The one after them is where the next try is made.
-#[derive(Drop)]
+#[derive(Clone, Copy)]
 pub struct Candidates {
     pub valid_profiles: [Profile; 6],
     pub current_index: usize,

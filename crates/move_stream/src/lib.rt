@@ -7,7 +7,7 @@ pub use batches::replies_to;
 pub use stream::answer_records;
 
 // How many records are answered, by how many bytes, and whether another may follow these.
-#[derive(Drop)]
+#[derive(Clone, Copy)]
 pub struct Batch {
     pub count: usize,
     pub length: usize,

@@ -11,7 +11,7 @@ pub use records::{RECORD_LENGTH, read_record};
 pub use replies::{full_reply_to, reply_to};
 
 // What the input's next bytes begin with.
-#[derive(Drop)]
+#[derive(Clone, Copy)]
 pub enum Record {
     // No byte: the input has ended.
     End,
@@ -21,7 +21,7 @@ pub enum Record {
 }
 
 // How many bytes answer a record, and whether another may follow.
-#[derive(Drop)]
+#[derive(Clone, Copy)]
 pub struct Reply {
     pub length: usize,
     pub goes_on: bool,

@@ -5,7 +5,7 @@ ghost use Rattle.phase_times.specs.Constants.{constants_of};
 
 use profile::{Limits, Start, Target};
 
-#[derive(Drop)]
+#[derive(Clone, Copy)]
 pub struct Constants {
     pub pd: f64,
     pub v0_v0: f64,

@@ -3,7 +3,7 @@
 ghost use Rattle.std.specs.Prelude.{◌≡◌};
 ghost use Rattle.phase_times_quartic.specs.Quartic.{shifted_quartic, has_solution};
 
-#[derive(Drop)]
+#[derive(Clone, Copy)]
 pub struct Quartic {
     pub c0: f64,
     pub c1: f64,

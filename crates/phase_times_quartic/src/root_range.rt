@@ -3,7 +3,7 @@
 ghost use Rattle.std.specs.Prelude.{◌≡◌};
 ghost use Rattle.phase_times_quartic.specs.RootRange.{is_skipped};
 
-#[derive(Drop)]
+#[derive(Clone, Copy)]
 pub struct RootRange {
     pub t_min: f64,
     pub t_max: f64,

@@ -2,6 +2,6 @@
 // whole. The records are those of `plan_moves`; crates `moves` and `move_stream` say which bytes answer which.
 use move_stream::answer_records;
 
-fn main() {
-    answer_records(true);
+fn main(rt: HostRuntime) {
+    answer_records(&rt, true);
 }

@@ -2,8 +2,8 @@
 // are document 01's; crates `moves` and `move_stream` say which bytes answer which.
 use move_stream::answer_records;
 
-fn main() {
-    if io::write_all(1, b"plan 1\n") {
-        answer_records(false);
+fn main(rt: HostRuntime) {
+    if rt.write_all(b"plan 1\n").is_ok() {
+        answer_records(&rt, false);
     }
 }

@@ -16,7 +16,7 @@ mod layout; // layout.rt: a move's numbers in their order
 pub use layout::MOVE_LENGTH;
 
 // Where a move starts and ends, its limits, and two durations that are only added to the plan's.
-#[derive(Drop)]
+#[derive(Clone, Copy)]
 pub struct Move {
     pub start: Start,
     pub target: Target,

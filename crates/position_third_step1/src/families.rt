@@ -7,7 +7,7 @@ use phase_times_quartic::root_range::RootRange;
 use roots::Roots;
 
 // What is tried in a stage of a search. `time_all_none_acc0_acc1` is three, one for each polynomial.
-#[derive(Drop)]
+#[derive(Clone, Copy)]
 pub enum Family {
     AllVel,
     None,
@@ -23,7 +23,7 @@ pub enum Family {
 
 // What the tries of a family share, and is computed once: the roots of its polynomial, the range that they are held to,
 // and numbers, each 0 where the family has none.
-#[derive(Drop)]
+#[derive(Clone, Copy)]
 pub struct Shared {
     pub roots: Roots,
     pub range: RootRange,

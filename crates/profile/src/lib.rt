@@ -12,7 +12,7 @@ mod lent; // lent.rt: the two functions that change a lent profile
 
 pub use layout::{DOUBLES, NAMES};
 
-#[derive(Drop)]
+#[derive(Clone, Copy)]
 pub enum ReachedLimits {
     Acc0Acc1Vel,
     Vel,
@@ -24,13 +24,13 @@ pub enum ReachedLimits {
     None,
 }
 
-#[derive(Drop)]
+#[derive(Clone, Copy)]
 pub enum Direction {
     UP,
     DOWN,
 }
 
-#[derive(Drop)]
+#[derive(Clone, Copy)]
 pub enum ControlSigns {
     UDDU,
     UDUD,
@@ -38,7 +38,7 @@ pub enum ControlSigns {
 
 // Seven phases of constant jerk, and the eight rows before and after them. brake and accel are durations that are only
 // added.
-#[derive(Drop)]
+#[derive(Clone, Copy)]
 pub struct Profile {
     pub t: [f64; 7],
     pub t_sum: [f64; 7],
@@ -56,21 +56,21 @@ pub struct Profile {
     pub control_signs: ControlSigns,
 }
 
-#[derive(Drop)]
+#[derive(Clone, Copy)]
 pub struct Start {
     pub p0: f64,
     pub v0: f64,
     pub a0: f64,
 }
 
-#[derive(Drop)]
+#[derive(Clone, Copy)]
 pub struct Target {
     pub pf: f64,
     pub vf: f64,
     pub af: f64,
 }
 
-#[derive(Drop)]
+#[derive(Clone, Copy)]
 pub struct Limits {
     pub v_max: f64,
     pub v_min: f64,
@@ -80,7 +80,7 @@ pub struct Limits {
 }
 
 // Limits moved out by their tolerances, the upper ones above the lower.
-#[derive(Drop)]
+#[derive(Clone, Copy)]
 pub struct Bounds {
     pub v_upp_lim: f64,
     pub v_low_lim: f64,
@@ -106,7 +106,7 @@ impl Profile {
 
 // The constants of the code are those of the definitions.
 pub fn constants()
-    ensures* fact { do v ← (⟦Profile::V_EPS⟧).entry; a ← (⟦Profile::A_EPS⟧).entry; j ← (⟦Profile::J_EPS⟧).entry; ⌜ (v ≡ v_eps) × (a ≡ a_eps) × (j ≡ j_eps) ⌝ }
-    ensures* fact_2 { do p ← (⟦Profile::P_PRECISION⟧).entry; v ← (⟦Profile::V_PRECISION⟧).entry; ⌜ (p ≡ p_precision) × (v ≡ v_precision) ⌝ }
-    ensures* fact_3 { do a ← (⟦Profile::A_PRECISION⟧).entry; t ← (⟦Profile::T_MAX⟧).entry; ⌜ (a ≡ a_precision) × (t ≡ t_max) ⌝ }
+    ensures eps { (Profile.V_EPS ≡ v_eps) × (Profile.A_EPS ≡ a_eps) × (Profile.J_EPS ≡ j_eps) }
+    ensures precision { (Profile.P_PRECISION ≡ p_precision) × (Profile.V_PRECISION ≡ v_precision) }
+    ensures longest { (Profile.A_PRECISION ≡ a_precision) × (Profile.T_MAX ≡ t_max) }
 {}

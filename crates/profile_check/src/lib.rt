@@ -10,7 +10,7 @@ use profile::{ControlSigns, Limits, Profile, ReachedLimits, Start, Target};
 use profile_rows::{Row, jerks_of, middle_row, outer_row, row_after, rows_of, sums_of};
 
 // Whether a profile was accepted, and the profile: filled in, or as it was given.
-#[derive(Drop)]
+#[derive(Clone, Copy)]
 pub struct Checked {
     pub ok: bool,
     pub profile: Profile,

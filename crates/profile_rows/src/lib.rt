@@ -6,7 +6,7 @@ ghost use Rattle.profile_rows.specs.Rows.{sums, jerk_if, jerks, row_after, store
 use profile::{ControlSigns, Limits, ReachedLimits, Start};
 
 // Acceleration, velocity and position before a phase or after it.
-#[derive(Drop)]
+#[derive(Clone, Copy)]
 pub struct Row {
     pub a: f64,
     pub v: f64,
@@ -14,7 +14,7 @@ pub struct Row {
 }
 
 // Eight rows, in columns as a profile holds them.
-#[derive(Drop)]
+#[derive(Clone, Copy)]
 pub struct Rows {
     pub a: [f64; 8],
     pub v: [f64; 8],

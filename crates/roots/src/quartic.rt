@@ -73,7 +73,7 @@ fn larger(x: f64, y: f64) -> f64
 }
 
 // The factors x² + p1 x + q1 and x² + p2 x + q2.
-#[derive(Drop)]
+#[derive(Clone, Copy)]
 struct Factors {
     p1: f64,
     q1: f64,

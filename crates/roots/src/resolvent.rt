@@ -15,7 +15,7 @@ const SQRT_3: f64 = 1.7320508075688772;
 
 // With a count of 3 or 2 the three numbers are the zeros, for 2 with the last one twice. With 1 the first is the one
 // real zero; the others are the real and the imaginary part of a complex one.
-#[derive(Drop)]
+#[derive(Clone, Copy)]
 pub struct Zeros {
     pub x: [f64; 3],
     pub count: usize,

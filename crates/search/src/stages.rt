@@ -11,7 +11,7 @@ use profile::{Limits, Start, Target};
 
 // Which stages a move has: single-step 1, a rest that is its own target 3 and the two-step families' 8, any other
 // resting target and any other move 10 and those 8.
-#[derive(Drop)]
+#[derive(Clone, Copy)]
 pub enum Kind {
     SingleStep,
     Itself,
@@ -20,7 +20,7 @@ pub enum Kind {
 }
 
 // The limits of a stage: as given, or swapped; or those for the direction of pf - p0, or for the other.
-#[derive(Drop)]
+#[derive(Clone, Copy)]
 pub enum Way {
     Given,
     Swapped,
@@ -30,7 +30,7 @@ pub enum Way {
 
 // A family in one direction. A guarded stage is entered only where no profile was found; one that stops ends at its
 // first success.
-#[derive(Drop)]
+#[derive(Clone, Copy)]
 pub struct Stage {
     pub family: Family,
     pub way: Way,

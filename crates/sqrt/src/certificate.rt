@@ -3,7 +3,7 @@ ghost use Rattle.std.specs.Prelude.{◌≡◌, ◌+◌, ◌*◌, ◌/◌, ◌%�
 ghost use Rattle.sqrt.specs.Verdicts.{verdict_of, Certified};
 
 // What is found of a candidate: it is the nearest number, or the next one up is, or the next one down, or none of these.
-#[derive(Drop)]
+#[derive(Clone, Copy)]
 pub enum Verdict {
     Nearest,
     TooLow,

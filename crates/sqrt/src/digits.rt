@@ -5,7 +5,7 @@ ghost use Rattle.elementary.specs.Functions.{sqrt_of};
 ghost use Rattle.sqrt.specs.Roots.{WholeRoot, NearestRoot};
 
 // A square root rounded down, and the rest.
-#[derive(Drop)]
+#[derive(Clone, Copy)]
 pub struct Root {
     pub root: u64,
     pub rest: u64,

@@ -4,7 +4,7 @@ ghost use Rattle.elementary.specs.Functions.{third_angle_cosine_of, third_angle_
 
 use angle::Argument;
 
-#[derive(Drop)]
+#[derive(Clone, Copy)]
 pub struct Pair {
     pub cos: f64,
     pub sin: f64,
