@@ -1,8 +1,8 @@
 -- What the machine holds as a Profile: each array has its length, and every number is a double. Assumes nothing.
 use Prim.Native.Nat.{ℕ, zero, suc}
-use mathlib.Core.Path.{◌≡◌, sym, subst, ◌∙◌}
-use mathlib.Core.List.{List, [], ◌∷◌, map, map-id}
-use lib.ListN.{length, get_or, length-map}
+use mathlib.Core.Path.{◌≡◌}
+use mathlib.Core.List.{List, [], ◌∷◌}
+use lib.ListN.{length, get_or}
 use lib.Dec.{T}
 use lib.Ieee.{Float, Format, binary64, nan, fits}
 use mir.Val.{Val}
@@ -21,15 +21,6 @@ each_fits f [] us i p = tt
 each_fits f (x ∷ xs) [] i p = absurd p
 each_fits f (x ∷ xs) (u ∷ us) zero p = passes _ p.0.1
 each_fits f (x ∷ xs) (u ∷ us) (suc i) p = each_fits f xs us i p.1
-
--- a struct's field, whose relation stands at `map` of the identity
-pub field_fits : (f : Format) (xs : List Float) (us : List Val) (i : ℕ)
-    → shadow (each Float (FloatOf f).own_val (map (λ (v : Float). v) xs) us) → T (fits f (get_or xs i nan))
-field_fits f xs us i p =
-    each_fits f xs us i (subst (λ (ys : List Float). shadow (each Float (FloatOf f).own_val ys us)) (map-id xs) p)
-
-pub field_length : (xs : List Float) (n : ℕ) → length (map (λ (v : Float). v) xs) ≡ n → length xs ≡ n
-field_length xs n e = sym (length-map xs (λ (v : Float). v)) ∙ e
 
 -- ---- a profile
 abbrev Double : Float → Type 0
@@ -63,33 +54,33 @@ of_machine q vs g =
     let from-pf = from_brake.1.1 in
     record {
       t = record {
-        size = field_length q.t 7 from-t.0.1.0.1;
-        doubles = λ i. field_fits binary64 q.t _ i
+        size = from-t.0.1.0.1;
+        doubles = λ i. each_fits binary64 q.t _ i
             from-t.0.1.1;
       };
       sums = record {
-        size = field_length q.t_sum 7 from-t.1.0.1.0.1;
-        doubles = λ i. field_fits binary64
+        size = from-t.1.0.1.0.1;
+        doubles = λ i. each_fits binary64
             q.t_sum _ i from-t.1.0.1.1;
       };
       j = record {
-        size = field_length q.j 7 from-j.0.1.0.1;
-        doubles = λ i. field_fits binary64 q.j _ i
+        size = from-j.0.1.0.1;
+        doubles = λ i. each_fits binary64 q.j _ i
             from-j.0.1.1;
       };
       a = record {
-        size = field_length q.a 8 from-j.1.0.1.0.1;
-        doubles = λ i. field_fits binary64 q.a _ i
+        size = from-j.1.0.1.0.1;
+        doubles = λ i. each_fits binary64 q.a _ i
             from-j.1.0.1.1;
       };
       v = record {
-        size = field_length q.v 8 from-v.0.1.0.1;
-        doubles = λ i. field_fits binary64 q.v _ i
+        size = from-v.0.1.0.1;
+        doubles = λ i. each_fits binary64 q.v _ i
             from-v.0.1.1;
       };
       p = record {
-        size = field_length q.p 8 from-v.1.0.1.0.1;
-        doubles = λ i. field_fits binary64 q.p _ i
+        size = from-v.1.0.1.0.1;
+        doubles = λ i. each_fits binary64 q.p _ i
             from-v.1.0.1.1;
       };
       brake = passes _ from_brake.0.1;

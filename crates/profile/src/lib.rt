@@ -1,5 +1,6 @@
 // A motion profile of one axis, its boundary and its limits: what profile.rs declares, by value. The definitions that
 // the contracts cite are in specs/.
+#![tactic(auto)]
 
 ghost use Rattle.std.specs.Prelude.{◌≡◌};
 ghost use Rattle.profile.specs.Tolerances.{v_eps, a_eps, j_eps, p_precision, v_precision, a_precision, t_max};
@@ -107,6 +108,6 @@ impl Profile {
 // The constants of the code are those of the definitions.
 pub fn constants()
     ensures eps { (Profile.V_EPS ≡ v_eps) × (Profile.A_EPS ≡ a_eps) × (Profile.J_EPS ≡ j_eps) }
-    ensures precision { (Profile.P_PRECISION ≡ p_precision) × (Profile.V_PRECISION ≡ v_precision) }
-    ensures longest { (Profile.A_PRECISION ≡ a_precision) × (Profile.T_MAX ≡ t_max) }
+    ensures precision { (Profile.P_PRECISION ≡ p_precision) × (Profile.V_PRECISION ≡ v_precision) × (Profile.A_PRECISION ≡ a_precision) }
+    ensures longest { Profile.T_MAX ≡ t_max }
 {}
