@@ -38,7 +38,7 @@ use Rattle.block.proofs.AfterLaws.{alone_after, from_after, selected_after}
 use Rattle.block.proofs.RefusalLaws.{selected_refusal}
 use Rattle.get_profile.specs.Calls.{Call, limits_of, itself_order, resting_order, moving_order, two_step_order}
 use Rattle.get_profile.specs.Calls.{stops_of, call_of, calls_of}
-use Rattle.get_profile.specs.Answered.{AcceptedFor, Answered}
+use Rattle.get_profile.specs.Answered.{AcceptedFor, Answered, AnsweredAfter}
 use Rattle.get_profile.specs.GetProfile.{EitherWay, TryBetween, resting, moving, two_step}
 use Rattle.get_profile.specs.GetProfile.{first_search}
 use Rattle.get_profile.specs.GetProfile.{try_families, after_passing, single_step_answer, selected_from}
@@ -91,6 +91,9 @@ module _ (start : Start) (target : Target) (M : Limits) (z : has_zero_limit M �
 
 -- ---- an answer
 module _ (input : Profile) (m : Limits) where
+  abbrev Told : Answer → Type 0
+  Told r = Answered input m r × AnsweredAfter input m r
+
   -- ---- selection
   selected_number : (s : ℕ → Profile) (n : ℕ) → n ≤ 5
       → ((selected s n).refusal ≡ 0) ⊎ (((selected s n).refusal ≡ 4) ⊎ ((selected s n).refusal ≡ 5))
@@ -108,15 +111,16 @@ module _ (input : Profile) (m : Limits) where
   selection_answered : (c : Candidates)
       → Sound (TryBetween (start_of input) (target_of input) m) (start_of input) (target_of input)
       input.brake input.accel c
-      → Answered input m (selected_from c)
-  selection_answered c h =
-      record {
-        number = selected_number (slot c) c.current_index h.ready.sized.at_most_five;
-        each = selected_each (AcceptedFor input m) (slot c) c.current_index h.counted;
-        after = selected_after (AcceptedFor input m) (slot c) c.current_index h.counted;
-        lasts = selected_duration (slot c) c.current_index;
-        empty = refused_empty (slot c) c.current_index;
-      }
+      → Told (selected_from c)
+  selection_answered c h = (
+    record {
+      number = selected_number (slot c) c.current_index h.ready.sized.at_most_five;
+      each = selected_each (AcceptedFor input m) (slot c) c.current_index h.counted;
+      lasts = selected_duration (slot c) c.current_index;
+      empty = refused_empty (slot c) c.current_index;
+    },
+    selected_after (AcceptedFor input m) (slot c) c.current_index h.counted,
+  )
 
   -- ---- the single-step path
   passing_each : (start : Start) (q : Profile) → AcceptedFor input m q
@@ -140,29 +144,33 @@ module _ (input : Profile) (m : Limits) where
       go false = alone_after (AcceptedFor input m) q
 
   single_step_answered : (start : Start) (d : Checked) → (d.ok ≡ true → AcceptedFor input m d.profile)
-      → Answered input m (single_step_answer start d)
+      → Told (single_step_answer start d)
   unfolding single_step_answer
   single_step_answered start d h = go d.ok h
     where
       go : (ok : Bool) → (ok ≡ true → AcceptedFor input m d.profile)
-          → Answered input m
+          → Told
           (cond ok (planned (block_of d.profile (after_passing start d.profile) no_interval)) (refused 4))
       go true h =
-          unfold planned in record {
-            number = inl refl;
-            each = λ e. passing_each start d.profile (h refl);
-            after = λ e. passing_after start d.profile;
-            lasts = λ e. unfold block_of in refl;
-            empty = λ e. absurd (e refl);
-          }
+          unfold planned in (
+            record {
+              number = inl refl;
+              each = λ e. passing_each start d.profile (h refl);
+              lasts = λ e. unfold block_of in refl;
+              empty = λ e. absurd (e refl);
+            },
+            λ e. passing_after start d.profile,
+          )
       go false h =
-          unfold refused in record {
-            number = inr (inl refl);
-            each = λ e. absurd (not_zero e);
-            after = λ e. absurd (not_zero e);
-            lasts = λ e. absurd (not_zero e);
-            empty = λ e. refl;
-          }
+          unfold refused in (
+            record {
+              number = inr (inl refl);
+              each = λ e. absurd (not_zero e);
+              lasts = λ e. absurd (not_zero e);
+              empty = λ e. refl;
+            },
+            λ e. absurd (not_zero e),
+          )
         where
           not_zero : ◌≡◌ {A = ℕ} 4 0 → ⊥
           not_zero e = omega arith
@@ -172,7 +180,7 @@ module _ (input : Profile) (m : Limits) where
   abbrev k : Constants
   k = constants_of (start_of input) (target_of input) m
 
-  searched : has_zero_limit m ≡ false → Answered input m (selected_from (found_for input m))
+  searched : has_zero_limit m ≡ false → Told input m (selected_from (found_for input m))
   searched z =
       selection_answered input m _
       (families_kept (start_of input) (target_of input) m z k input.brake input.accel (fresh_list input)
@@ -197,16 +205,22 @@ module _ (input : Profile) (m : Limits) where
 
   jerkless_step : has_zero_limit m ≡ true
       → let path = time_all_single_step (boundary_from empty_profile input) (start_of input) (target_of input) k m in
-      Answered input m (single_step_answer (start_of input) (run passes path))
+      Told input m (single_step_answer (start_of input) (run passes path))
   jerkless_step z =
       let q = boundary_from empty_profile input in
       single_step_answered input m (start_of input) _
       (λ e. jerkless z q (from_brake empty_profile input) (from_accel empty_profile input)
       (single_step_accepted q (start_of input) (target_of input) k m e))
 
-  pub answered : Answered input m (get_profile_answer input m)
-  answered = go (has_zero_limit m) refl
+  told : Told input m (get_profile_answer input m)
+  told = go (has_zero_limit m) refl
     where
-      go : (zero : Bool) → has_zero_limit m ≡ zero → Answered input m (get_profile_answer input m)
-      go true e = subst (Answered input m) (sym (single_step_is input m e)) (jerkless_step e)
-      go false e = subst (Answered input m) (sym (searched_is input m e)) (searched e)
+      go : (zero : Bool) → has_zero_limit m ≡ zero → Told input m (get_profile_answer input m)
+      go true e = subst (Told input m) (sym (single_step_is input m e)) (jerkless_step e)
+      go false e = subst (Told input m) (sym (searched_is input m e)) (searched e)
+
+  pub answered : Answered input m (get_profile_answer input m)
+  answered = told.0
+
+  pub answered_after : AnsweredAfter input m (get_profile_answer input m)
+  answered_after = told.1

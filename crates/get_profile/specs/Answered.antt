@@ -15,10 +15,13 @@ module _ (input : Profile) (m : Limits) where
   abbrev pub AcceptedFor : Profile → Type 0
   AcceptedFor = AcceptedOf (TryBetween (start_of input) (target_of input) m) input.brake input.accel
 
-  -- 0, 4 or 5; what a plan consists of, and where its stretches lie; the empty plan elsewhere
+  -- 0, 4 or 5; what a plan consists of; the empty plan elsewhere
   pub record Answered (r : Answer) : Type 0 where
     pub number : (r.refusal ≡ 0) ⊎ ((r.refusal ≡ 4) ⊎ (r.refusal ≡ 5))
     pub each : r.refusal ≡ 0 → Each AcceptedFor r.block
-    pub after : r.refusal ≡ 0 → EachAfter AcceptedFor r.block
     pub lasts : r.refusal ≡ 0 → r.block.t_min ≡ duration r.block.p_min
     pub empty : (r.refusal ≡ 0 → ⊥) → r.block ≡ empty_block
+
+  -- where the stretches of a plan lie
+  abbrev pub AnsweredAfter : Answer → Type 0
+  AnsweredAfter r = r.refusal ≡ 0 → EachAfter AcceptedFor r.block

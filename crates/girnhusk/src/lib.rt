@@ -1,7 +1,7 @@
 // What programs in C and Rust link: the functions of the archive libgirnhusk.a, with plain numbers for arguments.
 ghost use Rattle.std.specs.Prelude.{◌≡◌};
 ghost use Rattle.elementary.specs.Functions.{sqrt_of, cbrt_of, third_angle_cosine_of, third_angle_sine_of};
-ghost use Rattle.plan_buffer.specs.Buffers.{Planned, Asked};
+ghost use Rattle.plan_buffer.specs.Buffers.{Planned, HoldsJoinable, Asked};
 ghost use Rattle.arrival.specs.Arrivals.{Given};
 
 // Plans a move. `mv` holds 13 doubles: p0 v0 a0 pf vf af v_max v_min a_max a_min j_max brake accel.
@@ -10,7 +10,8 @@ ghost use Rattle.arrival.specs.Arrivals.{Given};
 // Nothing is written unless 0 is returned; what lies beyond the plan is never written.
 #[unsafe(no_mangle)]
 pub extern "C" fn girnhusk_plan(mv: &[f64], buffer: &mut [f64]) -> u64
-    ensures { Planned mv.now buffer.old result buffer.new }
+    ensures planned { Planned mv.now buffer.old result buffer.new }
+    ensures joinable { HoldsJoinable result buffer.new }
 {
     plan_buffer::plan(mv, buffer)
 }

@@ -18,7 +18,7 @@ use Rattle.planner.specs.Promise.{Promise, FiniteDuration}
 use Rattle.planner.specs.Arrival.{axis_of_plan, Joinable}
 use Rattle.planner.specs.declared.Move.{Move}
 use Rattle.plan_buffer.specs.Layout.{numeral, profile_numbers, interval_numbers, plan_numbers, plan_length}
-use Rattle.plan_buffer.specs.Buffers.{wrong_length, plan_status, plan_written, axis_in, Planned}
+use Rattle.plan_buffer.specs.Buffers.{wrong_length, plan_status, plan_written, axis_in, Planned, HoldsJoinable}
 use Rattle.plan_buffer.specs.Buffers.{inside_numbers, is_blocked_from, blocking_from, blocked_status, Asked}
 use Rattle.plan_buffer.proofs.LayoutLaws.{plan_length_law}
 
@@ -36,13 +36,7 @@ module _ (mv buffer : List Float) where
   unfolding plan_status plan_written
   wrong_move h =
       let e = ne_eqb (length mv) move_length h in
-      record {
-        status_is = rw e;
-        after_is = rw e;
-        promise = λ z. never z;
-        duration = λ z. never z;
-        joinable = λ z. never z;
-      }
+      record { status_is = rw e; after_is = rw e; promise = λ z. never z; duration = λ z. never z }
 
   module _ (of_move : length mv ≡ move_length) where
     pub short_buffer : length buffer < plan_length → Planned mv buffer wrong_length buffer
@@ -50,13 +44,7 @@ module _ (mv buffer : List Float) where
     short_buffer h =
         let e = eq-eqb (length mv) move_length of_move in
         let f = lt-ltb (length buffer) plan_length h in
-        record {
-          status_is = rw (e, f);
-          after_is = rw (e, f);
-          promise = λ z. never z;
-          duration = λ z. never z;
-          joinable = λ z. never z;
-        }
+        record { status_is = rw (e, f); after_is = rw (e, f); promise = λ z. never z; duration = λ z. never z }
 
     module _ (room : plan_length ≤ length buffer) (x : Move) (r : Answer) (ex : x ≡ move_of mv)
         (er : r ≡ answer_of x) where
@@ -72,21 +60,25 @@ module _ (mv buffer : List Float) where
             after_is = rw (← status, ne_eqb r.refusal 0 h);
             promise = λ z. absurd (h z);
             duration = λ z. absurd (h z);
-            joinable = λ z. absurd (h z);
           }
 
       pub planned_move : (after : List Float) → r.refusal ≡ 0 → Promise x r → FiniteDuration r
-          → Joinable r → after ≡ plan_numbers r.block ++ drop plan_length buffer
+          → after ≡ plan_numbers r.block ++ drop plan_length buffer
           → Planned mv buffer 0 after
       unfolding plan_written
-      planned_move after z promise duration joinable e =
+      planned_move after z promise duration e =
           record {
             status_is = sym z ∙ status;
             after_is = rw (← status, z, ← ex, ← er) e;
             promise = λ _. rw (← ex, ← er) (promise z);
             duration = λ _. rw (← ex, ← er) duration;
-            joinable = λ _. rw (e, axis_in_plan r.block (drop plan_length buffer)) (joinable z);
           }
+
+-- what the buffer of a plan holds is joinable where the plan is
+pub holds_joinable : (buffer after : List Float) (r : Answer) → r.refusal ≡ 0 → Joinable r
+    → after ≡ plan_numbers r.block ++ drop plan_length buffer → HoldsJoinable 0 after
+holds_joinable buffer after r z joinable e =
+    λ _. rw (e, axis_in_plan r.block (drop plan_length buffer)) (joinable z)
 
 -- ---- which times are blocked
 inside_numbers_law : (s : Stretch) (t : Float)

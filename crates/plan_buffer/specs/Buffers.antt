@@ -43,14 +43,16 @@ axis_in buffer =
       b_right = at buffer (stretch_b_at + 2);
     }
 
--- what planning gives: its status, what the buffer holds at the end, and for a plan the planner's promises; number 9
--- doesn't turn back what the buffer holds
+-- what planning gives: its status, what the buffer holds at the end, and for a plan the planner's promises
 pub record Planned (mv buffer : List Float) (status : ℕ) (after : List Float) : Type 0 where
   pub status_is : status ≡ plan_status mv buffer
   pub after_is : after ≡ plan_written mv buffer
   pub promise : status ≡ 0 → Each (Arrives (move_of mv)) (answer_of (move_of mv)).block
   pub duration : status ≡ 0 → FiniteDuration (answer_of (move_of mv))
-  pub joinable : status ≡ 0 → wrong_axis (axis_in after) ≡ false
+
+-- number 9 doesn't turn back what the buffer holds of a plan
+abbrev pub HoldsJoinable : (status : ℕ) → List Float → Type 0
+HoldsJoinable status after = status ≡ 0 → wrong_axis (axis_in after) ≡ false
 
 -- ---- which times are blocked
 

@@ -3,7 +3,7 @@
 
 ghost use Rattle.std.specs.Prelude.{◌≡◌};
 ghost use Rattle.plan_buffer.specs.Layout.{plan_length};
-ghost use Rattle.plan_buffer.specs.Buffers.{wrong_length, Planned, Asked};
+ghost use Rattle.plan_buffer.specs.Buffers.{wrong_length, Planned, HoldsJoinable, Asked};
 
 use crate::layout::PLAN_LENGTH;
 use crate::read::{blocking, moved};
@@ -21,7 +21,8 @@ const WRONG_LENGTH: u64 = 255;
 // or the buffer has fewer than a plan's 166.
 // Nothing is written unless 0 is returned, and nothing beyond the plan.
 pub fn plan(mv: &[f64], buffer: &mut [f64]) -> u64
-    ensures { Planned mv.now buffer.old result buffer.new }
+    ensures planned { Planned mv.now buffer.old result buffer.new }
+    ensures joinable { HoldsJoinable result buffer.new }
 {
     if mv.len() != MOVE_LENGTH {
         return WRONG_LENGTH;

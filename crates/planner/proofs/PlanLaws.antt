@@ -23,7 +23,7 @@ use Rattle.block.specs.declared.Answer.{Answer}
 use Rattle.arrival.specs.Axes.{wrong_axis}
 use Rattle.get_profile.specs.GetProfile.{get_profile_answer}
 use Rattle.get_profile.specs.Answered.{AcceptedFor}
-use Rattle.get_profile.proofs.AnswerLaws.{answered}
+use Rattle.get_profile.proofs.AnswerLaws.{answered, answered_after}
 use Rattle.profile.specs.Tolerances.{t_max}
 use Rattle.planner.specs.Answers.{finite_start, finite_target, finite_limits, finite_move, wrong_duration, input_of, answer_of, Admitted}
 use Rattle.planner.specs.Promise.{Arrives, Promise, FiniteDuration, OfMove, CheckedFor}
@@ -133,9 +133,9 @@ module _ (x : Move) (accepted : (answer_of x).refusal ≡ 0) where
   t_min_is : (answer_of x).block.t_min ≡ duration (answer_of x).block.p_min
   t_min_is = rw answer_is ((answered (input_of x) x.limits).lasts (rw answer_is at accepted))
 
-  pub plan_duration : Fits x.brake → Fits x.accel
+  pub plan_lasts : Fits x.brake → Fits x.accel
       → Finite (answer_of x).block.t_min × T (0ᶠ ≤ᶠ (answer_of x).block.t_min)
-  plan_duration b a =
+  plan_lasts b a =
       let q = (answer_of x).block.p_min in
       let k = lasting q accepted_each.shortest in
       let hb = brake_part b in
@@ -145,16 +145,23 @@ module _ (x : Move) (accepted : (answer_of x).refusal ≡ 0) where
         holds _ (duration_at_least_zero (total q) x.brake x.accel k.total_is hb ha),
       )
 
+  pub plan_duration : Fits x.brake → Fits x.accel → OfDoubles (answer_of x).block.p_min
+      → Finite (answer_of x).block.t_min × T (0ᶠ ≤ᶠ (answer_of x).block.t_min)
+  plan_duration b a d = plan_lasts b a
+
   -- and as an axis number 9 doesn't turn it back
   pub plan_joinable : Fits x.brake → Fits x.accel → wrong_axis (axis_of_plan (answer_of x).block) ≡ false
   plan_joinable b a =
       plan_right x.brake x.accel (brake_part b) (accel_part a) (AcceptedFor (input_of x) x.limits) lasting
       (answer_of x).block t_min_is accepted_each.shortest
-      (rw answer_is ((answered (input_of x) x.limits).after (rw answer_is at accepted)))
+      (rw answer_is (answered_after (input_of x) x.limits (rw answer_is at accepted)))
 
 -- ---- what is promised of an answer
 pub promised : (x : Move) (r : Answer) → Fits x.brake → Fits x.accel → PlanOfDoubles r.block → r ≡ answer_of x
-    → (r ≡ answer_of x) × Promise x r × FiniteDuration r × Joinable r
+    → (r ≡ answer_of x) × Promise x r × FiniteDuration r
 promised x r b a d e =
     let d' : PlanOfDoubles (answer_of x).block = rw e at d in
-    (e, rw e (λ h. plan_arrives x h d'), rw e (λ h. plan_duration x h b a), rw e (λ h. plan_joinable x h b a))
+    (e, rw e (λ h. plan_arrives x h d'), rw e (λ h. plan_duration x h b a d'.shortest))
+
+pub joinable : (x : Move) (r : Answer) → Fits x.brake → Fits x.accel → r ≡ answer_of x → Joinable r
+joinable x r b a e = rw e (λ h. plan_joinable x h b a)

@@ -96,7 +96,8 @@ fn answer(x: Move) -> Answer
 
 // The plan of a move with refusal 0, or the number of its refusal with the empty plan.
 pub fn plan(x: Move) -> Answer
-    ensures { (result ≡ answer_of x) × Promise x result × FiniteDuration result × Joinable result }
+    ensures promised { (result ≡ answer_of x) × Promise x result × FiniteDuration result }
+    ensures joinable { Joinable result }
 {
     answer(x)
 }
