@@ -13,7 +13,7 @@ use lib.ListN.{length}
 use lib.Ieee.{Float, is_nan}
 use lib.Ieee.Bits.{is_true}
 use lib.Ieee.Scale.{finite as finite?}
-use Rattle.doubles.specs.Operators.{◌<ᶠ◌, ◌==ᶠ◌, at}
+use Rattle.doubles.specs.Operators.{◌<ᶠ◌, ◌==ᶠ◌}
 use Rattle.doubles.specs.Constants.{0ᶠ}
 use Rattle.doubles.specs.Functions.{absᶠ}
 use Rattle.doubles.specs.Value.{Fits, Finite}

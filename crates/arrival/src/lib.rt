@@ -1,4 +1,5 @@
 // One arrival time for all axes of a move: the earliest duration that none of them blocks.
+#![tactic(auto)]
 
 ghost use Rattle.std.specs.Prelude.{◌≡◌};
 ghost use Rattle.arrival.specs.Axes.{axes_most, ends_length};

@@ -1,0 +1,14 @@
+-- `arrival::scan::admitted` meets its contract. The invariant: none of the axes passed is wrong. Assumes nothing.
+use Prim.Native.Nat.{ℕ, ◌-◌, ◌≤◌, ◌<◌}
+use mathlib.Core.Path.{◌≡◌}
+use mathlib.Core.Bool.{false}
+use lib.ListN.{length}
+use Rattle.arrival.specs.Axes.{axis_of, wrong_axis}
+use Rattle.arrival.proofs.scan.admitted.Given as goal
+
+abbrev pub invariant-loop-i : goal.invariant-loop-i
+invariant-loop-i l =
+    (l.i ≤ length l.durations) × ((k : ℕ) → k < l.i → wrong_axis (axis_of l.durations l.ends k) ≡ false)
+
+abbrev pub decreases-loop-i : goal.decreases-loop-i
+decreases-loop-i l = length l.durations - l.i
