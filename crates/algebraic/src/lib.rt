@@ -1,5 +1,7 @@
 // Real numbers that are roots of polynomials, in half units of the last place of a significand of 53
 // digits: compared with whole numbers, and rounded one binary digit a round.
+#![tactic(auto)]
+
 pub mod digits;
 pub mod order;
 

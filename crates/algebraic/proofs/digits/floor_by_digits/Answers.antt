@@ -1,0 +1,72 @@
+-- `algebraic::digits::floor_by_digits` meets its contract. Assumes nothing.
+use mathlib.Core.Path.{◌≡◌, refl, sym, ap, ◌∙◌}
+use Prim.Native.Nat.{ℕ, suc, ◌+◌, ◌-◌, ◌*◌, ◌%◌, ◌^◌, ◌≤◌, ◌<◌}
+use native.Mathlib.Nat.{pow-succ'}
+use native.Mathlib.Omega.{arith}
+use lib.Pow.{pow_mono, pow_pos}
+use Rattle.elementary.specs.Nearest.{Real, floor_from}
+use Rattle.words.specs.Limbs.{code}
+use Rattle.algebraic.specs.Reals.{real_of}
+use Rattle.elementary.proofs.Binade.{digit_one, digit_zero}
+use Rattle.algebraic.proofs.Codes.{code_less, code_ge}
+use Rattle.algebraic.proofs.digits.floor_by_digits.Goals as goal
+
+-- the digit that a turn looks at, as the code has it
+record Bit (d : ℕ) : Type 0 where
+  is : d ≡ suc (d - 1)
+  twice : 2 ^ d ≡ 2 * 2 ^ (d - 1)
+  shifted : 1 * 2 ^ (d - 1) % 2 ^ 64 ≡ 2 ^ (d - 1)
+
+bit : (d : ℕ) → 0 < d → d ≤ 53 → Bit d
+bit d h l =
+    let e : d ≡ suc (d - 1) = omega arith in
+    let small : 2 ^ (d - 1) ≤ 2 ^ 52 = pow_mono (let z : d - 1 ≤ 52 = omega arith in z) in
+    record { is = e; twice = ap (λ (x : ℕ). 2 ^ x) e ∙ pow-succ' 2 (d - 1); shifted = omega arith }
+
+done : (real : Real) (n : ℕ) → n ≡ floor_from real 0 n
+unfolding floor_from
+done real n = refl
+
+pub loop-d-init : goal.loop-d-init
+loop-d-init c = (omega arith, omega arith, refl)
+
+pub overflow_add-t : goal.overflow_add-t
+overflow_add-t c = omega (arith, (bit c.loop-d.d c.loop-d-test.true c.loop-d.invariant.0).shifted, (bit c.loop-d.d c.loop-d-test.true c.loop-d.invariant.0).twice)
+
+pub compared-requires : goal.compared-requires
+compared-requires c =
+    (c.requires, omega (arith, (bit c.loop-d.d c.loop-d-test.true c.loop-d.invariant.0).shifted, (bit c.loop-d.d c.loop-d-test.true c.loop-d.invariant.0).twice, pow_pos (c.loop-d.d - 1)))
+
+pub loop-d-preserved-then-compared-ne0 : goal.loop-d-preserved-then-compared-ne0
+loop-d-preserved-then-compared-ne0 c =
+    let l = c.loop-d in
+    let b = bit c.loop-d.d c.loop-d-test.true c.loop-d.invariant.0 in
+    rw b.shifted (
+      omega arith,
+      omega (arith, b.twice),
+      sym (digit_one (real_of c.args.c) (l.d - 1) l.n
+          (code_ge (real_of c.args.c (l.n + 2 ^ (l.d - 1))) c.compared.result
+          (c.compared.ensures ∙ ap (λ (x : ℕ). code (real_of c.args.c (l.n + x))) b.shifted)
+          c.if-compared-ne0.true)) ∙ ap (λ (x : ℕ). floor_from (real_of c.args.c) x l.n) (sym b.is) ∙ l.invariant.2,
+    )
+
+pub loop-d-preserved : goal.loop-d-preserved
+loop-d-preserved c =
+    let l = c.loop-d in
+    let b = bit c.loop-d.d c.loop-d-test.true c.loop-d.invariant.0 in (
+      omega arith,
+      omega (arith, b.twice),
+      sym (digit_zero (real_of c.args.c) (l.d - 1) l.n
+          (code_less (real_of c.args.c (l.n + 2 ^ (l.d - 1))) c.compared.result
+          (c.compared.ensures ∙ ap (λ (x : ℕ). code (real_of c.args.c (l.n + x))) b.shifted)
+          c.if-compared-ne0.false)) ∙ ap (λ (x : ℕ). floor_from (real_of c.args.c) x l.n) (sym b.is) ∙ l.invariant.2,
+    )
+
+pub returns : goal.returns
+returns c =
+    let l = c.loop-d in
+    let z : l.d ≡ 0 = omega arith in (
+      omega (arith, ap (λ (x : ℕ). 2 ^ x) z),
+      done (real_of c.args.c) l.n
+          ∙ ap (λ (x : ℕ). floor_from (real_of c.args.c) x l.n) (sym z) ∙ l.invariant.2,
+    )
