@@ -1,4 +1,5 @@
 // What the seven phases make: sums, jerks and rows. Row i + 1 comes after phase i.
+#![tactic(auto)]
 
 ghost use Rattle.std.specs.Prelude.{◌≡◌};
 ghost use Rattle.profile_rows.specs.Rows.{sums, jerk_if, jerks, row_after, stored_if, outer_row, middle_row, rows_of};
