@@ -1,8 +1,7 @@
 -- What the conditions of a check say makes its answer. Assumes nothing.
 use mathlib.Core.Path.{◌≡◌, refl, ◌∙◌}
-use mathlib.Core.Bool.{Bool, true, false, not, ◌&&◌}
+use mathlib.Core.Bool.{Bool, true, false, ◌&&◌}
 use mathlib.Core.List.{List, [], ◌∷◌}
-use borrow.Author.Tests.{not-true, not-false}
 use lib.Ieee.{Float}
 use Rattle.profile.specs.Tolerances.{t_max}
 use Rattle.profile.specs.Limits.{bounds_of}
@@ -40,16 +39,16 @@ columns r0 r1 r2 r3 r4 r5 r6 r7 =
 -- x1, x2 and x3 are the tests of the times, x those of the rows
 module _ (start : Start) (target : Target) (t : List Float) (signs : ControlSigns) (reached : ReachedLimits) (set-limits : Bool) (jf : Float) (m : Limits)
     {x1 : Bool} (e1 : x1 ≡ times_pass t) where
-  pub refused_times : not x1 ≡ true → false ≡ accepted start target t signs reached set-limits jf m
+  pub refused_times : x1 ≡ false → false ≡ accepted start target t signs reached set-limits jf m
   unfolding accepted
-  refused_times h = rw (← e1, not-true x1 h)
+  refused_times h = rw (← e1, h)
 
-  module _ (h1 : not x1 ≡ false) {x2 x3 : Bool} (e2 : x2 ≡ phases_pass reached t) (e3 : x3 ≡ sum_passes t_max t) where
-    pub refused_phases : not (x2 && x3) ≡ true → false ≡ accepted start target t signs reached set-limits jf m
+  module _ (h1 : x1 ≡ true) {x2 x3 : Bool} (e2 : x2 ≡ phases_pass reached t) (e3 : x3 ≡ sum_passes t_max t) where
+    pub refused_phases : (x2 && x3) ≡ false → false ≡ accepted start target t signs reached set-limits jf m
     unfolding accepted
-    refused_phases h = rw (← e1, not-false x1 h1, ← e2, ← e3, not-true (x2 && x3) h)
+    refused_phases h = rw (← e1, h1, ← e2, ← e3, h)
 
-    pub by_rows : not (x2 && x3) ≡ false
+    pub by_rows : (x2 && x3) ≡ true
         → {j : List Float} {r : Rows} {b : Bounds} {x : Bool}
         → j ≡ jerks signs t jf
         → r ≡ rows_of start t j reached set-limits m
@@ -58,5 +57,5 @@ module _ (start : Start) (target : Target) (t : List Float) (signs : ControlSign
         → x ≡ accepted start target t signs reached set-limits jf m
     unfolding accepted
     by_rows h {j} {r} {b} ej er eb e =
-        rw (← e1, not-false x1 h1, ← e2, ← e3, not-false (x2 && x3) h, ← ej, ← er, ← eb)
+        rw (← e1, h1, ← e2, ← e3, h, ← ej, ← er, ← eb)
         (e ∙ turned (zeros_pass r j b) (end_passes r target) (rows_pass r b))

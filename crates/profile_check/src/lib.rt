@@ -1,4 +1,5 @@
 // The check. A try that it refuses writes no profile: `accepts` says whether, and `filled` fills the profile in.
+#![tactic(auto)]
 
 ghost use Rattle.std.specs.Prelude.{◌≡◌, false};
 ghost use Rattle.profile_check.specs.Check.{accepted, filled, checked};
