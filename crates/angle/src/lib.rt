@@ -1,4 +1,6 @@
 // The cosine t of an angle, taken apart for the cosine and the sine of a third of the angle.
+#![tactic(auto)]
+
 ghost use Rattle.std.specs.Prelude.{◌≡◌, ◌+◌, ◌*◌, ◌^◌, ◌<◌, ◌≤◌};
 ghost use Rattle.angle.specs.Arguments.{Taken, size_of};
 

@@ -7,9 +7,7 @@ use native.Mathlib.Omega.{arith}
 use lib.Bits.{and_mask}
 use lib.Pow.{pow_pos, pow-add, pow_mono}
 use Rattle.words.proofs.WideLaws.{upper_part}
-use borrow.Author.Rules.{rules}
-use Rattle.angle.proofs.size_of.Statement.{statement}
-use Rattle.angle.proofs.size_of.Tie as tie
+use Rattle.angle.proofs.size_of.Goals as goal
 
 split : (n y : ℕ) → y < 64 → n / 2 ^ (64 - y) * 2 ^ 64 + n * 2 ^ y % 2 ^ 64 ≡ n * 2 ^ y
 split n y h =
@@ -27,20 +25,15 @@ above n y h l g =
     ∙ ap (λ (x : ℕ). n * x)
     (sym (pow-add 2 (y - 64) 64) ∙ ap (λ (x : ℕ). 2 ^ x) (let z : y - 64 + 64 ≡ y = omega arith in z))
 
-add-significand : tie.Need-overflow-add-significand
-add-significand c = omega (arith, and_mask c.args.m 52)
+pub overflow_add-significand : goal.overflow_add-significand
+overflow_add-significand c = omega (arith, and_mask c.args.m 52)
 
-returns : tie.Need-returns
-returns c = rw (and_mask c.before.args.m 52)
-    (split (c.before.args.m % 2 ^ 52 + 2 ^ 52) (c.before.args.m / 2 ^ 52 - 947) c.if1.true)
+pub returns-then-shift-lt64 : goal.returns-then-shift-lt64
+returns-then-shift-lt64 c = rw (and_mask c.args.m 52)
+    (split (c.args.m % 2 ^ 52 + 2 ^ 52) (c.args.m / 2 ^ 52 - 947) c.if-shift-lt64.true)
 
-returns-2 : tie.Need-returns-2
-returns-2 c =
-    rw (and_mask c.before.args.m 52)
-    (above (c.before.args.m % 2 ^ 52 + 2 ^ 52) (c.before.args.m / 2 ^ 52 - 947) (omega arith) c.if1.false
+pub returns-else-shift-lt64 : goal.returns-else-shift-lt64
+returns-else-shift-lt64 c =
+    rw (and_mask c.args.m 52)
+    (above (c.args.m % 2 ^ 52 + 2 ^ 52) (c.args.m / 2 ^ 52 - 947) (omega arith) c.if-shift-lt64.false
     (omega arith))
-
-pub size-of-spec : {M : Type 1} → statement M
-size-of-spec =
-    tie.close (tie.spec add-significand (λ c. search rules) (λ c. search rules) (λ c. search rules) (λ c. search rules)
-    (λ c. search rules) returns returns-2)
