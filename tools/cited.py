@@ -21,17 +21,17 @@ ARCHITECTURE = "docs/ARCHITECTURE.md"
 # The user's papers, which aren't ours to change.
 PAPERS = re.compile(r"docs/(src/.*|\d\d-.*\.md)")
 # Words of the kit and of the language, which nothing declares.
-WORDS = {"axiom", "ensures", "extern", "requires", "rt", "std"}
+WORDS = {"axiom", "ensures", "extern", "new", "now", "old", "requires", "result", "rt", "std"}
 # Made by commands.
-BUILT = re.compile(r"(.*/)?target(/.*)?")
+BUILT = re.compile(r"(.*/)?(target|crates/\w+/out)(/.*)?")
 
 FENCED = re.compile(r"^```.*?^```$", re.M | re.S)
 QUOTED = re.compile(r"`([^`]+)`")
 LINK = re.compile(r"\[([^\]\n]*)\]\(([^)\s]+)\)")
 LINES = re.compile(r"L(\d+)(?:-L(\d+))?")
 PATH = re.compile(r"\.?[\w-][\w.-]*(/[\w.*-]+)+/?|\./[\w.-]+")
-NAME = re.compile(r"(?=\S*[^\W\d_])[\w«»′→_-]+(::\w+)?")
-IN_EXPRESSION = re.compile(r"[^\s(){}⌜⌝.,;:]+")
+NAME = re.compile(r"(?=\S*[^\W\d_])[\w'→-]+(::\w+)?")
+IN_EXPRESSION = re.compile(r"[^\s(){}.,;:]+")
 COMMAND = re.compile(r"(rt|cargo|python3|cd|gcc|g\+\+)\s")
 
 DECLARED_LAW = re.compile(r"^ *((?:[^\s:(){}=λ]+ +)+):(?=\s|$)", re.M)
@@ -43,7 +43,7 @@ DECLARED_CODE = re.compile(
     | ^\s+(?:pub\s+)?(?P<field>\w+)\s*(?::|,$)""",
     re.M | re.X,
 )
-IMPORTED = re.compile(r"^(?:ghost\s+)?use\s+(?:Prim|mathlib|lib|native|borrow|denote)[\w.·]*\.\{([^}]*)\}", re.M)
+IMPORTED = re.compile(r"^(?:ghost\s+)?use\s+([\w.]+)\.\{([^}]*)\}", re.M)
 
 
 def without_comments(text, mark):
@@ -55,7 +55,7 @@ def declared_in_laws(text):
     text = without_comments(text, "--")
     heads = [[word for word in found[1].split() if word not in MODIFIERS] for found in DECLARED_LAW.finditer(text)]
     names = {name for head in heads if head[0] not in ("let", "module", "record", "data") for name in head}
-    return {name.strip("«»") for name in names | {found[1] for found in DECLARED_TYPE.finditer(text)}}
+    return names | {found[1] for found in DECLARED_TYPE.finditer(text)}
 
 
 def declared_in_code(text):
@@ -78,19 +78,26 @@ def declared(path):
     return declared_in_laws(text) if path.suffix == ".antt" else declared_in_code(text)
 
 
-def imported(text):
-    """The kit's names that a file uses."""
-    return {name.split(" as ")[0].strip() for found in IMPORTED.finditer(text) for name in found[1].split(",")}
+def imported(text, ours=()):
+    """The names that a file uses of modules other than those of our crates: the kit's."""
+    used = [found[2] for found in IMPORTED.finditer(text) if found[1].removeprefix("Rattle.").split(".")[0] not in ours]
+    return {name.split(" as ")[0].strip() for names in used for name in names.split(",")}
+
+
+def sources(top):
+    """The .rt and .antt files of the crates, without what commands make in their out/."""
+    paths = (path for folder in ("src", "specs", "proofs") for path in top.glob(f"crates/*/{folder}/**/*"))
+    return [path for path in paths if path.suffix in (".rt", ".antt")]
 
 
 @cache
 def known(top):
     """Every name: declared in crates/ or in the Rust of docs/src; a crate, a module, an edit; the kit's, in use."""
     names = WORDS | set(re.findall(r"\w+", (top / "crates.txt").read_text(encoding="utf-8")))
-    for path in [*top.glob("crates/**/*.antt"), *top.glob("crates/**/*.rt"), *top.glob("docs/src/**/*.rs")]:
+    for path in [*sources(top), *top.glob("docs/src/**/*.rs")]:
         names |= declared(path) | {path.stem}
         if path.suffix != ".rs":
-            names |= imported(path.read_text(encoding="utf-8"))
+            names |= imported(path.read_text(encoding="utf-8"), needs(top))
     return names | {path.stem for path in top.glob("crates/*/must-fail/*.edit")}
 
 
@@ -217,7 +224,7 @@ def of_edits(top, document, text):
 
 def needs(top):
     """What each crate of crates.txt builds on, of our own crates."""
-    lines = re.findall(r"^(\w+):(.*)$", (top / "crates.txt").read_text(encoding="utf-8"), re.M)
+    lines = re.findall(r"^(\w+)[^#:\n]*:(.*)$", (top / "crates.txt").read_text(encoding="utf-8"), re.M)
     ours = {name for name, _ in lines}
     return {name: set(words.split()) & ours for name, words in lines}
 

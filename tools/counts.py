@@ -25,7 +25,7 @@ WIDTHS = {
 PATH = re.compile(r"\.before(?:\s+\.before)*")
 NUMBER = re.compile(rf"(?<![\w.·-])({'|'.join(map(str, LAYOUT))})(?:[iu](?:8|16|32|64|128|size))?(?![\w·-]|\.\d)")
 # A byte's place in a record of a test program, which has a layout of its own.
-OWN_PLACE = re.compile(r"(doubleAt b|getD b|double_at\(bytes,|byte_at\(bytes,) \d+")
+OWN_PLACE = re.compile(r"(double_at b|doubleAt b|get_or b|getD b|double_at\(bytes,|byte_at\(bytes,) \d+")
 COMMENT = {".rt": re.compile(r"//[^\n]*"), ".antt": re.compile(r"(?<!\S)--(?!\S)[^\n]*")}
 
 
@@ -49,8 +49,9 @@ def layout_numbers(text, suffix):
 
 
 def sources(top):
-    """Every .rt and .antt file with its path from the top and its text."""
-    for path in sorted((top / "crates").rglob("*")):
+    """Every .rt and .antt file of src/, specs/ and proofs/ with its path from the top and its text."""
+    paths = (path for folder in ("src", "specs", "proofs") for path in top.glob(f"crates/*/{folder}/**/*"))
+    for path in sorted(paths):
         if path.suffix in COMMENT and path.is_file():
             yield path.relative_to(top), path.read_text(encoding="utf-8")
 
@@ -67,7 +68,7 @@ def bare_numbers(files):
 
 def crates(top):
     lines = (top / "crates.txt").read_text(encoding="utf-8").split("\n")
-    return sum(bool(re.match(r"\w+\s*:", line)) for line in lines)
+    return sum(bool(re.match(r"\w+[^#:]*:", line)) for line in lines)
 
 
 def counts(top):

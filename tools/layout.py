@@ -18,25 +18,25 @@ from girnhusk import movefile, plans
 TOP = Path(__file__).resolve().parent.parent
 # Kinds of names that are stored as numbers, with the definition that numbers them.
 NAMES = {
-    "DIRECTIONS": "directionNumber",
-    "LIMITS": "limitsNumber",
-    "CONTROL_SIGNS": "controlSignsNumber",
-    "KINDS": "kindNumber",
+    "DIRECTIONS": "direction_number",
+    "LIMITS": "limits_number",
+    "CONTROL_SIGNS": "control_signs_number",
+    "KINDS": "kind_number",
 }
 # What the definitions call the parts of an interval and of a plan.
-INTERVAL = {"kindNumber": "kind", "leftEnd": "left", "rightEnd": "right", "profileNumbers": "profile"}
+INTERVAL = {"kind_number": "kind", "left_end": "left", "right_end": "right", "profile_numbers": "profile"}
 PLAN = {"t_min": "duration", "p_min": "profile", "a": "stretch_a", "b": "stretch_b"}
 # What they call places and lengths.
 PLACES = {
-    "profileLength": "PROFILE_LENGTH",
-    "intervalLength": "INTERVAL_LENGTH",
-    "durationAt": "PLAN_DURATION",
-    "profileAt": "PLAN_PROFILE",
-    "stretchAAt": "PLAN_STRETCH_A",
-    "stretchBAt": "PLAN_STRETCH_B",
-    "planLength": "PLAN_LENGTH",
-    "moveLength": "MOVE_LENGTH",
-    "wrongLength": "WRONG_LENGTH",
+    "profile_length": "PROFILE_LENGTH",
+    "interval_length": "INTERVAL_LENGTH",
+    "duration_at": "PLAN_DURATION",
+    "profile_at": "PLAN_PROFILE",
+    "stretch_a_at": "PLAN_STRETCH_A",
+    "stretch_b_at": "PLAN_STRETCH_B",
+    "plan_length": "PLAN_LENGTH",
+    "move_length": "MOVE_LENGTH",
+    "wrong_length": "WRONG_LENGTH",
 }
 DEFINITIONS = (
     "crates/profile/specs/Layout.antt",
@@ -86,7 +86,7 @@ def singles(names):
 
 def plain(name):
     """A name without the marks in which languages differ."""
-    return re.sub(r"[«»_ ]", "", name).upper()
+    return re.sub(r"[_ ]", "", name).upper()
 
 
 def between(text, start, end):
@@ -115,17 +115,17 @@ def numbered(text, name):
 
 def defined_profile(layout, buffer, numbers):
     """The parts of a profile with their lengths: its names, then its doubles."""
-    parts = singles(re.findall(r"\(q \.«?(\w+)»?\)", body(buffer, "names")))
-    doubles = re.findall(r"elements (\w+) \(q \.«?(\w+)»?\)|q \.«?(\w+)»? ∷", body(layout, "profileDoubles"))
+    parts = singles(re.findall(r"\bq\.(\w+)", body(buffer, "names")))
+    doubles = re.findall(r"elements (\w+) q\.(\w+)|\bq\.(\w+) ∷", body(layout, "profile_doubles"))
     return parts + [(array or single, computed({"": length or "1"}, numbers)[""]) for length, array, single in doubles]
 
 
 def defined_axes(axes):
     """The places of an axis's ends, and how many axes there may be."""
-    places = re.findall(r"«(\w+)» = at ends \(endsLength \* i(?: \+ (\d))?\)", body(axes, "axisOf"))
+    places = re.findall(r"(\w+) = at ends \(ends_length \* i(?: \+ (\d))?\)", body(axes, "axis_of"))
     ends = offsets("ENDS", singles(name for name, _ in sorted(places, key=lambda place: int(place[1] or 0))))
     numbers = whole_numbers(axes)
-    return ends | {"ENDS_LENGTH": int(numbers["endsLength"]), "AXES_MOST": int(numbers["axesMost"])}
+    return ends | {"ENDS_LENGTH": int(numbers["ends_length"]), "AXES_MOST": int(numbers["axes_most"])}
 
 
 def defined():
@@ -133,19 +133,19 @@ def defined():
     layout, planner, buffer, buffers = map(read, DEFINITIONS)
     numbers = computed(whole_numbers("\n".join((layout, planner, buffer, buffers))))
     profile = offsets("PROFILE", defined_profile(layout, buffer, numbers))
-    lengths = {"profileNumbers": profile["PROFILE_LENGTH"]}
-    words = re.findall(r"\w+", body(buffer, "ends") + body(buffer, "intervalNumbers"))
+    lengths = {"profile_numbers": profile["PROFILE_LENGTH"]}
+    words = re.findall(r"\w+", body(buffer, "ends") + body(buffer, "interval_numbers"))
     parts = [word for word in words if word in INTERVAL]
     interval = offsets("INTERVAL", [(INTERVAL[part], lengths.get(part, 1)) for part in parts])
-    lengths["intervalNumbers"] = interval["INTERVAL_LENGTH"]
-    parts = re.findall(r"(\w*) ?\(b \.«?(\w+)»?", body(buffer, "planNumbers"))
+    lengths["interval_numbers"] = interval["INTERVAL_LENGTH"]
+    parts = re.findall(r"(\w*) ?\(?\bb\.(\w+)", body(buffer, "plan_numbers"))
     plan = offsets("PLAN", [(PLAN[part], lengths.get(list_of, 1)) for list_of, part in parts])
-    places = re.findall(r"«?(\w+)»? = at l (\d+)", body(planner, "moveOf"))
+    places = re.findall(r"(\w+) = at l (\d+)", body(planner, "move_of"))
     move = offsets("MOVE", singles(name for name, _ in sorted(places, key=lambda place: int(place[1]))))
     names = read("crates/profile/specs/Names.antt") + read("crates/block/specs/Blocks.antt")
     order = {kind: numbered(names, number) for kind, number in NAMES.items()}
     axes = defined_axes(read("crates/arrival/specs/Axes.antt"))
-    return profile | interval | plan | move | axes | {"WRONG_LENGTH": numbers["wrongLength"]} | order
+    return profile | interval | plan | move | axes | {"WRONG_LENGTH": numbers["wrong_length"]} | order
 
 
 # ---- the header for C
@@ -245,7 +245,7 @@ def of_numbers():
 
 def of_family_records(text):
     """A move in the records of families_test, whose places are bytes."""
-    return {f"MOVE_{name.upper()}": int(place) / 8 for name, place in re.findall(r"(\w+)»? = doubleAt b (\d+)", text)}
+    return {f"MOVE_{name.upper()}": int(place) / 8 for name, place in re.findall(r"(\w+) = double_at b (\d+)", text)}
 
 
 def compared():

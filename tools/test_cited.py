@@ -5,17 +5,18 @@ from pathlib import Path
 
 import cited
 
-LAWS = """-- lawOf : in a comment
-use mathlib.Core.Path.{_≡_, refl}
-use lib.Ieee.{Float, finite as fin}
-unfoldable pub sumOf : Float → Float
-sumOf x = let y : Float = x in y
+LAWS = """-- law_of : in a comment
+use Rattle.std.specs.Prelude.{◌≡◌, Float}
+use Rattle.std.specs.Float.Ieee.Scale.{finite as fin}
+use Rattle.ends.specs.Ends.{end_of}
+unfoldable pub sum_of : Float → Float
+sum_of x = let y : Float = x in y
 
 module _ (x : Float) where
-  pub not-lt→atmost :
+  pub not_lt→atmost :
       Float
   pub record Sound : Type 0 where
-    pub start-is «t_min» : Float
+    pub start_is t_min : Float
   pub data Kind : Type 0 where
     Long : Kind
 """
@@ -31,24 +32,26 @@ pub enum Way {
 impl Profile {
     pub const T_MAX: f64 = 1e12;
 
-    pub fn set(x: f64) -> f64 {
+    pub fn set(x: f64) -> f64
+        ensures value { result ≡ sum_of x }
+    {
         x
     }
 }
 
-#[no_mangle]
+#[unsafe(no_mangle)]
 pub extern "C" fn outer(x: f64) {}
 """
 PROOFS = """# Proofs
 
 ## The check, once
 
-See [the check](#the-check-once), `crates/sums/specs` and `./test`; `sumOf` of the kit's `finite`, `r ≡ sumOf x`.
+See [the check](#the-check-once), `crates/sums/specs` and `./test`; `sum_of` of the kit's `finite`, `result ≡ sum_of x`.
 
 | promise | definition | law | files |
 |---|---|---|---|
-| `outer` sums | `sumOf` | `Profile::set`, `T_MAX` | [crates/sums/specs/Sums.antt](../crates/sums/specs/Sums.antt) [crates/sums/src/lib.rt](../crates/sums/src/lib.rt#L2-L4) [laws](../crates/ends/proofs/Laws.antt) |
-| no file | `sums` | `not-lt→atmost`: `sumOf x ≤ 128` | |
+| `outer` sums | `sum_of` | `Profile::set`, `T_MAX` | [crates/sums/specs/Sums.antt](../crates/sums/specs/Sums.antt) [crates/sums/src/lib.rt](../crates/sums/src/lib.rt#L2-L4) [laws](../crates/ends/proofs/Laws.antt) |
+| no file | `sums` | `not_lt→atmost`: `sum_of x ≤ 128` | |
 
 In the log `logic=proved functions=2` stands for each crate.
 
@@ -68,7 +71,7 @@ flowchart BT
 
 | crate | what |
 |---|---|
-| `sums` | [`sumOf`](../crates/sums/specs/Sums.antt) |
+| `sums` | [`sum_of`](../crates/sums/specs/Sums.antt) |
 | `ends`, `lines` | |
 | `lines_test` | |
 
@@ -77,13 +80,13 @@ flowchart BT
 | `is_blocked` | [2–3](src/block.rs#L2-L3) [5](src/block.rs#L5) |
 """
 FILES = {
-    "crates.txt": "# NAME: DEP\nsums:\nends: sums\nlines: sums ends io\nlines_test: lines\n",
+    "crates.txt": "# NAME: DEP\nsums:\nends: sums\nlines staticlib: sums ends io\nlines_test: lines\n",
     "test": "",
     "crates/sums/specs/Sums.antt": LAWS,
     "crates/sums/src/lib.rt": CODE,
     "crates/sums/must-fail/less.edit": "",
-    "crates/ends/specs/Ends.antt": "pub endOf : Float\n",
-    "crates/ends/proofs/Laws.antt": "pub endLaw : Float\n",
+    "crates/ends/specs/Ends.antt": "pub end_of : Float\n",
+    "crates/ends/proofs/Laws.antt": "pub end_law : Float\n",
     "docs/src/block.rs": "impl Block {\n    pub fn is_blocked(\n    ) {}\n}\nfn end() {}\n",
     "docs/PROOFS.md": PROOFS,
     "docs/ARCHITECTURE.md": MAP,
@@ -116,20 +119,20 @@ class Checked(unittest.TestCase):
         self.assertEqual(self.faults(), [])
 
     def test_wrong_name_in_a_row(self):
-        self.assert_fault("line 9: sumsOf isn't declared in the row's files", "| `sumOf` |", "| `sumsOf` |")
+        self.assert_fault("line 9: sums_of isn't declared in the row's files", "| `sum_of` |", "| `sums_of` |")
 
     def test_name_of_another_file_in_a_row(self):
-        self.assert_fault("endOf isn't declared in the row's files", "| `sumOf` |", "| `endOf` |")
+        self.assert_fault("end_of isn't declared in the row's files", "| `sum_of` |", "| `end_of` |")
 
     def test_definition_among_proofs(self):
-        self.assert_fault("endLaw isn't declared in the row's files in specs/ or src/", "| `sumOf` |", "| `endLaw` |")
-        self.assertEqual(self.faults("`Profile::set`, `T_MAX`", "`endLaw`"), [])
+        self.assert_fault("end_law isn't declared in the row's files in specs/ or src/", "| `sum_of` |", "| `end_law` |")
+        self.assertEqual(self.faults("`Profile::set`, `T_MAX`", "`end_law`"), [])
 
     def test_three_names(self):
         self.assert_fault("line 9: more than two names in a cell", "`Profile::set`,", "`Profile::set`, `UP`,")
 
     def test_name_broken_over_lines(self):
-        self.assert_fault("line 5: sumUp isn't", "`r ≡ sumOf x`", "`r ≡\nsumUp x`")
+        self.assert_fault("line 5: sum_up isn't", "`result ≡ sum_of x`", "`result ≡\nsum_up x`")
 
     def test_wrong_name_of_a_type(self):
         self.assert_fault("Profile::sets isn't", "Profile::set`", "Profile::sets`")
@@ -138,10 +141,10 @@ class Checked(unittest.TestCase):
         self.assert_fault("inner isn't declared in crates/", "| `outer` sums", "| `inner` sums")
 
     def test_wrong_name_in_a_row_without_file(self):
-        self.assert_fault("line 10: lt→atmost isn't declared in crates/", "`not-lt→atmost`", "`lt→atmost`")
+        self.assert_fault("line 10: lt→atmost isn't declared in crates/", "`not_lt→atmost`", "`lt→atmost`")
 
     def test_wrong_name_in_an_expression(self):
-        self.assert_fault("line 5: sumUp isn't declared in crates/", "`r ≡ sumOf x`", "`r ≡ sumUp x`")
+        self.assert_fault("line 5: sum_up isn't declared in crates/", "`result ≡ sum_of x`", "`result ≡ sum_up x`")
 
     def test_wrong_name_in_prose(self):
         self.assert_fault("line 5: infinite isn't declared in crates/", "`finite`", "`infinite`")
@@ -184,7 +187,7 @@ class Map(unittest.TestCase):
         self.assert_fault("ends isn't listed", "`ends`, ", "")
 
     def test_name_of_a_link(self):
-        self.assert_fault("sumsOf isn't declared in ../crates/sums/specs/Sums.antt", "`sumOf`", "`sumsOf`")
+        self.assert_fault("sums_of isn't declared in ../crates/sums/specs/Sums.antt", "`sum_of`", "`sums_of`")
 
     def test_lines_of_the_rust(self):
         both = "`is_blocked` | [2–3](src/block.rs#L2-L3) [5](src/block.rs#L5)"
@@ -195,8 +198,8 @@ class Map(unittest.TestCase):
 class Declared(unittest.TestCase):
     def test_laws(self):
         names = cited.declared_in_laws(LAWS)
-        self.assertEqual(names, {"sumOf", "not-lt→atmost", "Sound", "start-is", "t_min", "Kind", "Long"})
-        self.assertEqual(cited.imported(LAWS), {"_≡_", "refl", "Float", "finite"})
+        self.assertEqual(names, {"sum_of", "not_lt→atmost", "Sound", "start_is", "t_min", "Kind", "Long"})
+        self.assertEqual(cited.imported(LAWS, {"sums", "ends"}), {"◌≡◌", "Float", "finite"})
 
     def test_code(self):
         self.assertEqual(

@@ -17,7 +17,7 @@ class Counted(unittest.TestCase):
     def test_layout_numbers(self):
         code = "let b = [0u8; 166]; // 53 doubles\nlet c = x[54usize] + 1660 + 0.53 + 53.5 + a_110 + 914;\n"
         self.assertEqual(counts.layout_numbers(code, ".rt"), [(1, "166"), (2, "54usize"), (2, "914")])
-        laws = "-- at 54\nat-most-54 : (at l 56) (at plan 110) (doubleAt b 56)\nx--y = 107 -- 53\n"
+        laws = "-- at 54\nat_most_54 : (at l 56) (at plan 110) (double_at b 56) (get_or b 54 0)\nx--y = 107 -- 53\n"
         self.assertEqual(counts.layout_numbers(laws, ".antt"), [(2, "56"), (2, "110"), (3, "107")])
 
     def test_where_numbers_are_bare(self):
@@ -37,10 +37,11 @@ class Counted(unittest.TestCase):
         with tempfile.TemporaryDirectory() as folder:
             top = Path(folder)
             for path, text in {
-                "crates.txt": "# NAME: DEP\nmoves:\nlines: moves\n",
+                "crates.txt": "# NAME: DEP\nmoves:\nlines staticlib: moves\n",
                 "crates/moves/src/lib.rt": "fn one() {}\nfn two() {\n    three(107)\n}\n",
                 "crates/moves/proofs/Laws.antt": "law = c .before .before .before .before .before " + "x" * 80 + "\n",
                 "crates/moves/must-fail/wrong.edit": "",
+                "crates/moves/out/kept/Laws.antt": "law = 1\n",
             }.items():
                 (top / path).parent.mkdir(parents=True, exist_ok=True)
                 (top / path).write_text(text, encoding="utf-8")
