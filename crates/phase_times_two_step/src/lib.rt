@@ -1,4 +1,5 @@
 // Phase times of the two-step families of step 1, as `phase_times` has those of the others.
+#![tactic(auto)]
 
 pub mod scaled_root;
 pub mod time_acc0_two_step;
