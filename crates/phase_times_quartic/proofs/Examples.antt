@@ -1,6 +1,6 @@
 -- The definitions on numbers, by computation: a rest-to-rest move of 2, whose root is 2, and what is easily got wrong.
 use mathlib.Core.Bool.{true, false}
-use mathlib.Core.List.{List, [], ◌∷◌}
+use mathlib.Core.List.{[], ◌∷◌}
 use mathlib.Core.Path.{◌≡◌, refl}
 use lib.Ieee.{nan, is_nan, add, sub, mul, div, neg, lt, of_bits}
 use Rattle.doubles.specs.Operators.{◌<ᶠ◌}

@@ -1,0 +1,18 @@
+-- `phase_times_quartic::correction_acc1::third_correction_acc1` meets its contract. Assumes nothing.
+use Rattle.phase_times_quartic.specs.CorrectionAcc1.{third_correction_acc1}
+use Rattle.phase_times_quartic.proofs.correction_acc1.third_correction_acc1.Goals as goal
+
+pub returns-then-abs : goal.returns-then-abs
+unfolding third_correction_acc1
+returns-then-abs c =
+    let still-off = c.before in
+    rw (
+      ← still-off.orig_acc1-orig.ensures,
+      ← still-off.abs.ensures,
+      ← c.deriv_acc1.ensures,
+      still-off.if-abs.true,
+    )
+
+pub returns-else-abs : goal.returns-else-abs
+unfolding third_correction_acc1
+returns-else-abs c = rw (← c.orig_acc1-orig.ensures, ← c.abs.ensures, c.if-abs.false)
