@@ -13,9 +13,7 @@ use Rattle.elementary.specs.Functions.{cbrt_of}
 use Rattle.cbrt.specs.Certificate.{target_of}
 use Rattle.elementary.specs.Binade.{RoundsTo}
 use Rattle.cbrt.proofs.Roots.{root_of, certified, root_pattern}
-use borrow.Author.Rules.{rules}
-use Rattle.cbrt.proofs.certificate.is_root.Statement.{statement}
-use Rattle.cbrt.proofs.certificate.is_root.Tie as tie
+use Rattle.cbrt.proofs.certificate.is_root.Goals as goal
 
 -- m * 2 ^ (53 + o) in two limbs, as the code has them
 record Limbs (m o : ℕ) : Type 0 where
@@ -52,9 +50,9 @@ module _ (b : ℕ) (least : 2 ^ 52 ≤ b) (finite : b < 0x7ff0_0000_0000_0000) w
   start : (b / 2 ^ 52 + 2043) / 3 * 2 ^ 52 % 2 ^ 64 ≡ (b / 2 ^ 52 + 2043) / 3 * 2 ^ 52
   start = omega arith
 
-  pattern-at : (y : ℕ) → b / 2 ^ 52 + 1021 + 1022 ≡ y → (r : ℕ) → RoundsTo (root_of (b % 2 ^ 52 + 2 ^ 52) (y % 3)) r
+  pattern_at : (y : ℕ) → b / 2 ^ 52 + 1021 + 1022 ≡ y → (r : ℕ) → RoundsTo (root_of (b % 2 ^ 52 + 2 ^ 52) (y % 3)) r
       → of_bits binary64 (y / 3 * 2 ^ 52 + r) ≡ cbrt_of (of_bits binary64 b)
-  pattern-at y e r =
+  pattern_at y e r =
       subst (λ (z : ℕ). RoundsTo (root_of (b % 2 ^ 52 + 2 ^ 52) (z % 3)) r
       → of_bits binary64 (z / 3 * 2 ^ 52 + r) ≡ cbrt_of (of_bits binary64 b)) e
       (root_pattern b (b % 2 ^ 52 + 2 ^ 52) (b / 2 ^ 52 + 1021) (normal b (b / 2 ^ 52 - 1) (omega arith) finite)
@@ -65,73 +63,63 @@ module _ (b : ℕ) (least : 2 ^ 52 ≤ b) (finite : b < 0x7ff0_0000_0000_0000) w
       → of_bits binary64 c ≡ cbrt_of (of_bits binary64 b)
   settled c s e is lo above below v h =
       ap (of_bits binary64) (sym (ap (λ (x : ℕ). x + (c - s)) (sym is) ∙ (let z : s + (c - s) ≡ c = omega arith in z)))
-      ∙ pattern-at (b / 2 ^ 52 + 2043) (omega arith) (c - s)
+      ∙ pattern_at (b / 2 ^ 52 + 2043) (omega arith) (c - s)
       (certified (b % 2 ^ 52 + 2 ^ 52) ((b / 2 ^ 52 + 2043) % 3) (omega arith) (omega arith) (omega arith)
       (c - s) e above below (target (b % 2 ^ 52 + 2 ^ 52) ((b / 2 ^ 52 + 2043) % 3) e v) h)
 
-returns : tie.Need-returns
-returns c = record {
+pub returns-then-c-start : goal.returns-then-c-start
+returns-then-c-start c = record {
   yes = λ e. absurd (subst T (sym e) tt);
   sure = λ p q w. absurd
-      (let z : ⊥ = omega (arith, start c.before.args.b c.before.requires.0 c.before.requires.1) in z);
+      (let z : ⊥ = omega (arith, start c.args.b c.requires.0 c.requires.1) in z);
 }
 
-returns-2 : tie.Need-returns-2
-returns-2 c =
-    let at_entry_lem = c.before.before in
+pub returns-then-n-le4503599627370496 : goal.returns-then-n-le4503599627370496
+returns-then-n-le4503599627370496 c =
     record {
       yes = λ e. absurd (subst T (sym e) tt);
       sure = λ p q w. absurd
-          (let z : ⊥ = omega (arith, start at_entry_lem.args.b at_entry_lem.requires.0 at_entry_lem.requires.1) in z);
+          (let z : ⊥ = omega (arith, start c.args.b c.requires.0 c.requires.1) in z);
     }
 
-returns-3 : tie.Need-returns-3
-returns-3 c =
-    let at_entry_lem = c.before.before.before in
+pub returns-then-n-ge9007199254740992 : goal.returns-then-n-ge9007199254740992
+returns-then-n-ge9007199254740992 c =
     record {
       yes = λ e. absurd (subst T (sym e) tt);
       sure = λ p q w. absurd
-          (let z : ⊥ = omega (arith, start at_entry_lem.args.b at_entry_lem.requires.0 at_entry_lem.requires.1) in z);
+          (let z : ⊥ = omega (arith, start c.args.b c.requires.0 c.requires.1) in z);
     }
 
-add-m : tie.Need-overflow-add-m
-add-m c = omega (arith, and_mask c.before.before.before.args.b 52)
+pub overflow_add-m : goal.overflow_add-m
+overflow_add-m c = omega (arith, and_mask c.args.b 52)
 
-mul-between : tie.Need-overflow-mul-between
-mul-between c =
-    let at_entry_lem = c.before.before.before in
-    omega (arith, start at_entry_lem.args.b at_entry_lem.requires.0 at_entry_lem.requires.1)
+pub overflow_mul-n : goal.overflow_mul-n
+overflow_mul-n c =
+    omega (arith, start c.args.b c.requires.0 c.requires.1)
 
-between-requires : tie.Need-between-requires
-between-requires c κs =
-    let at_entry_lem = c.before.before.before in
-    let b = at_entry_lem.args.b in
+pub between-requires : goal.between-requires
+between-requires c =
+    let b = c.args.b in
     rw (and_mask b 52)
     (let l = limbs (b % 2 ^ 52 + 2 ^ 52) ((b / 2 ^ 52 + 2043) % 3) (omega arith) (omega arith) in
     (omega arith, omega arith, omega arith, l.high, l.low))
 
-returns-4 : tie.Need-returns-4
-returns-4 c =
-    let at_entry_lem = c.before.before.before.before in
-    let b = at_entry_lem.args.b in
-    let starts = start b at_entry_lem.requires.0 at_entry_lem.requires.1 in
+pub returns : goal.returns
+returns c =
+    let b = c.args.b in
+    let starts = start b c.requires.0 c.requires.1 in
     let parts = limbs (b % 2 ^ 52 + 2 ^ 52) ((b / 2 ^ 52 + 2043) % 3) (omega arith) (omega arith) in
     record {
       yes =
           λ e.
-          settled b at_entry_lem.requires.0 at_entry_lem.requires.1 at_entry_lem.args.c _ _ starts
-          c.before.before.before.if1.false c.before.before.if2.false c.before.if3.false
+          settled b c.requires.0 c.requires.1 c.args.c _ _ starts
+          c.if-c-start.false c.if-n-le4503599627370496.false c.if-n-ge9007199254740992.false
           parts.value
           (rw (and_mask b 52) at (c.between.ensures.yes e));
       sure =
           λ p q w.
           (rw (and_mask b 52) at c.between.ensures.sure)
-          (subst (λ (e : ℕ). WellBetween 0 (2 * (at_entry_lem.args.c - (b / 2 ^ 52 + 2043) / 3 * 2 ^ 52 % 2 ^ 64)) e)
+          (subst (λ (e : ℕ). WellBetween 0 (2 * (c.args.c - (b / 2 ^ 52 + 2043) / 3 * 2 ^ 52 % 2 ^ 64)) e)
           (sym parts.value)
-          (subst (λ (x : ℕ). WellBetween 0 (2 * (at_entry_lem.args.c - x)) (target_of b)) (sym starts) w));
+          (subst (λ (x : ℕ). WellBetween 0 (2 * (c.args.c - x)) (target_of b)) (sym starts) w));
     }
-
-pub is-root-spec : {M : Type 1} → statement M
-is-root-spec =
-    tie.close (tie.spec (λ c. search rules) returns returns-2 returns-3 add-m
-    (λ c. search rules) mul-between between-requires returns-4)
