@@ -57,6 +57,7 @@ class Turn:
     def __init__(self, crate, path, entry):
         self.crate, self.path, self.entry, self.said = crate, path, entry, []
         self.named = set()
+        self.short = {}
         self.needs = {dashed(a): b for a, b in entry["needs"]}
         self.places = {}
         self.steps = {}
@@ -67,12 +68,45 @@ class Turn:
             # a step that is only counted has no name to cite, and may be called as a variable is
             if old and not re.fullmatch(re.escape(old) + r"(-\d+)+", step):
                 self.steps[dashed(old)] = step
-        self.new_steps = set(self.steps.values())
+        self.made = {place[2][1] for place in entry["places"]}
+        # the facts of an arm, by the variant's step
+        self.arms, of_place = {}, {}
+        for place in entry["places"]:
+            if place[2][0] == "match":
+                of_place[place[0]] = place[2][1]
+            elif place[1] in of_place:
+                of_place[place[0]] = of_place[place[1]]
+                self.arms[dashed(place[2][0])] = of_place[place[1]]
         self.loops = {dashed(names[0]): (names[1], variables, changed) for (names, variables), changed in zip(entry["loops"], entry["changed"])}
         self.pre = (entry.get("pre") or {}).get("fields") or []
 
     def left(self, text):
         self.said.append(f"left: {self.path}: {text}")
+
+    def up(self, place, to):
+        """How many `.before` lead from one place to another; None where none do."""
+        parents = {self.places[dashed(p[0])]: self.places.get(dashed(p[1] or "")) for p in self.entry["places"]}
+        n = 0
+        while place is not None:
+            if place == to:
+                return n
+            place, n = parents.get(place), n + 1
+        return None
+
+    def calls(self, body, place, helpers):
+        """Calls of helpers with `c`, at the place that each takes."""
+        for f, at in helpers.items():
+            def call(m):
+                n = self.up(place, at)
+                if n is None:
+                    self.left(f"{f} takes {at}, not reached from {place}")
+                    return m.group(0)
+                if n > 1 and f in self.short:
+                    inside = m.string[m.start() - 1:m.start()] == "(" and m.string[m.end():m.end() + 1] == ")"
+                    return self.short[f][1:-1] if inside else self.short[f]
+                return f + " c" + ".before" * n
+            body = re.sub(r"(?<![\w'.-])" + re.escape(f) + r" c((?:\.before)*)(?![\w.'-])", call, body)
+        return body
 
     def need(self, word):
         word = dashed(word)
@@ -120,11 +154,23 @@ class Turn:
 
         s = re.sub(r"tie\.Need-([^\s(){},]*)" + loops, need, s)
 
+        def arm(m):
+            word = dashed(m.group(1))
+            return f".{self.arms[word]}.is" if word in self.arms else m.group(0)
+
+        s = re.sub(r"\.(" + WORD + r")\.given\.1(?![\w.])", arm, s)
+
+        # parameters that a pattern or `self` had counted names for
+        for old, new in self.entry["args"]:
+            s = re.sub(re.escape(old.replace(" ", "")) + r"(?![\w-])", lambda m, new=new: new.replace(" ", ""), s)
+
         # steps
         def step(m):
             word = dashed(m.group(1))
             if word in self.steps:
                 return "." + self.steps[word]
+            if m.group(1) in self.made:
+                return m.group(0)
             # names of the source
             return "." + m.group(1).replace("-", "_")
 
@@ -147,6 +193,45 @@ class Turn:
         s = re.sub(r"\.requires((?:\.\d)*)(?![\w.])", requires, s)
         s = re.sub(r"(?:\.before)+(?=\.[A-Za-z])", "", s)
         return s
+
+
+PROJECTION = re.compile(r"^(?:pub )?(?:abbrev )?(?:pub )?(" + WORD + r") : [^\n]*\n\1 (\w+) =\s*(.*)$", re.S)
+
+
+def plain_place(value, names):
+    """Whether a term is a place: a variable of names and `.before`s, behind lets of such."""
+    names = set(names)
+    while True:
+        m = re.match(r"let (" + WORD + r") = (" + WORD + r")((?:\.before)*) in\s*", value)
+        if not m:
+            break
+        if m.group(2) not in names:
+            return False
+        names.add(m.group(1))
+        value = value[m.end():]
+    m = re.fullmatch(r"(" + WORD + r")((?:\.before)*)", value.strip())
+    return bool(m) and m.group(1) in names
+
+
+def without_places(body, projections, names=("c",)):
+    """The text with no name for an earlier place: today `c` has every earlier step."""
+    for f in projections:
+        arg = r"((?:[\w-]+)(?:\.before)*|\([^()]*\)(?:\.before)*)"
+        for _ in range(4):
+            body = re.sub(r"\((?<![\w'-])" + re.escape(f) + " " + arg + r"\)", r"\1", body)
+            body = re.sub(r"(?<![\w'.-])" + re.escape(f) + " " + arg, r"\1", body)
+            body = re.sub(r"\(([\w-]+(?:\.before)*)\)", r"\1", body)
+    known = set(names)
+    while True:
+        m = None
+        for m in re.finditer(r"let ([\w-]+) = ([\w-]+)((?:\.before)*) in\s*", body):
+            if m.group(2) in known:
+                break
+        else:
+            return body
+        alias, to = m.group(1), m.group(2)
+        body = body[:m.start()] + body[m.end():]
+        body = re.sub(r"(?<![\w'.-])" + re.escape(alias) + r"(?![\w'-])", to + m.group(3), body)
 
 
 def substitute(body, names):
@@ -241,7 +326,7 @@ def turn_file(crate, path, entry, where):
     local_goal = {}
     for d in decls:
         body = "\n".join(d["lines"]).rstrip()
-        if re.match(r"pub [^\s]+-spec : \{M : Type", body):
+        if re.match(r"pub [^\s]+[-_]spec : \{M : Type", body):
             spec = body
             continue
         m = re.match(r"(?:pub )?(?:abbrev )?(" + WORD + r") : tie\.Need-(\S+)", body)
@@ -253,6 +338,35 @@ def turn_file(crate, path, entry, where):
         if not re.match(r"(?:pub )?(?:abbrev )?(?:pub )?(invariant|decreases|ghost)-\S+ : tie\.(invariant|decreases|ghost)-", body):
             if "-" in d["name"]:
                 renamed[d["name"]] = d["name"].replace("-", "_")
+    projections, helpers = [], {}
+    for d in decls:
+        body = "\n".join(d["lines"]).rstrip()
+        m = PROJECTION.match(body)
+        if m and ": tie." in body and plain_place(re.sub(r"\b(?:" + "|".join(map(re.escape, projections)) + r") ", "", m.group(3)) if projections else m.group(3), [m.group(2)]):
+            projections.append(d["name"])
+            d["gone"] = True
+            continue
+        m = re.match(r"module _ \(c : tie\.(" + r"[^\s(){},]+" + r")", body)
+        if m and t.place(m.group(1)):
+            d["place"] = t.place(m.group(1))
+            for name in re.findall(r"(?m)^  (?:pub )?(?:abbrev )?(" + WORD + r") :", body):
+                helpers[name] = d["place"]
+            continue
+        m = re.match(r"(?:pub )?(?:abbrev )?(?:pub )?(" + WORD + r") : \(?(?:\w+ : )?tie\.([^\s(){},]+)", body)
+        if m and not m.group(2).startswith("Need-") and t.place(m.group(2)):
+            d["place"] = helpers[m.group(1)] = t.place(m.group(2))
+    for d in decls:
+        # a helper of one line goes where it is called
+        lines = d["lines"]
+        m = re.match(re.escape(d["name"]) + r" c =\s*(.*)", "\n".join(lines[1:]).rstrip(), re.S)
+        if d["name"] in helpers and m and len(lines) < 4 and len(m.group(1)) < 120 and "\n" not in m.group(1).strip() and " in " not in m.group(1):
+            t.short[d["name"]] = "(" + t.text(without_places(m.group(1).strip(), projections)) + ")"
+    asked_at = {n[1]: at[1] for n, at in zip(entry["needs"], entry["asked_at"])}
+
+    def flat(text, place):
+        text = t.text(without_places(text, projections))
+        return t.calls(text, place, helpers) if place else text
+
     spec_goal = {}
     if spec:
         m = re.search(r"tie\.spec\s*(.*)\)\s*$", spec, re.S)
@@ -280,7 +394,7 @@ def turn_file(crate, path, entry, where):
                 t.left(f"{len(args)} answers for {len(order)} goals; by place: {odd + named}")
     for d in decls:
         body = "\n".join(d["lines"]).rstrip()
-        if body == (spec or "").rstrip():
+        if body == (spec or "").rstrip() or d.get("gone"):
             continue
         comment = "\n".join(d["comment"]).strip("\n")
         m = re.match(r"(?:pub )?(?:abbrev )?(?:pub )?(invariant|decreases)-(\S+) : tie\.\S+\n", body)
@@ -320,7 +434,7 @@ def turn_file(crate, path, entry, where):
                 continue
             eq = re.search(r"^" + re.escape(d["name"]) + r"(( [^\n=]*?)?) =(.*)", body, re.S | re.M)
             value = eq.group(3).strip() if eq else ""
-            if eq and TRIVIAL.match(value):
+            if eq and TRIVIAL.match(value) and "\nunfolding " not in body:
                 continue
             fields = entry["asked"].get(new) or []
             if eq and len(fields) > 1 and "\n  where" not in body:
@@ -338,14 +452,17 @@ def turn_file(crate, path, entry, where):
                     out.append(new + params)
                 else:
                     out.append(line)
-            answers.append((comment, t.text("\n".join(out)), new))
+            answers.append((comment, flat("\n".join(out), asked_at.get(new)), new))
             continue
-        answers.append((comment, t.text(body), None))
+        answers.append((comment, flat(body, d.get("place")), None))
     have = {n for _, _, n in answers if n}
     for n, value in spec_goal.items():
         if n in have or TRIVIAL.match(value.strip()):
             continue
-        answers.append(("", t.text(f"pub {n} : goal.{n}\n{n} c = {value}"), n))
+        answers.append(("", flat(f"pub {n} : goal.{n}\n{n} c = {value}", asked_at.get(n)), n))
+    for _ in range(3):
+        cited = lambda f: sum(len(re.findall(r"(?<![\w'.-])" + re.escape(f) + r"(?![\w'-])", b)) for _, b, _ in answers) + sum(f in b for _, b in invariants)
+        answers = [a for a in answers if a[2] or not (m := re.match(r"(?:pub )?(?:abbrev )?(?:pub )?(" + WORD + ")", a[1])) or m.group(1) not in t.short or cited(m.group(1)) > 2]
     for old, new in list(renamed.items()):
         pattern = r"(?<![\w.'′-])" + re.escape(old) + r"(?![\w'′-])"
         answers = [(c, re.sub(pattern, new, b), n) for c, b, n in answers]
@@ -383,7 +500,7 @@ def turn_file(crate, path, entry, where):
 
     first = [(c, b) for c, b in invariants]
     # the header stands as the first declaration's comment when nothing parts them
-    clean = lambda c: "" if c and c + "\n" == header else c
+    clean = lambda c: (c + "\n").replace(header, "", 1).strip("\n") if header else c
     if first:
         write("Invariants.antt", [(clean(c), b) for c, b in first], "Given")
     if answers:

@@ -12,7 +12,6 @@ use Rattle.doubles.specs.Constants.{8ᶠ, eps}
 use Rattle.profile.specs.declared.Profile.{Profile}
 use Rattle.block.specs.Blocks.{total, block_of, planned}
 use Rattle.block.specs.Selection.{near, of_two, faster, fastest, of_three, with_two, of_five, same_direction, selected}
-use Rattle.block.specs.Plans.{refusal}
 use Rattle.block.specs.declared.Answer.{Answer}
 use Rattle.doubles.proofs.CondLaws.{cond_of, cond_by}
 use Rattle.doubles.proofs.ComparisonLaws.{lt_irreflexive, lt_asymmetric, not_through, not_below}

@@ -11,7 +11,7 @@ use Rattle.profile.specs.declared.Profile.{Profile}
 use Rattle.block.specs.Blocks.{total, planned, refused}
 use Rattle.block.specs.Selection.{near, of_two, fastest, of_three, with_two, of_five, same_direction, removal, without}
 use Rattle.block.specs.Selection.{of_four, selected}
-use Rattle.block.specs.Plans.{refusal, refusal_of}
+use Rattle.block.specs.Plans.{refusal_of}
 use Rattle.block.specs.declared.Answer.{Answer}
 use Rattle.doubles.proofs.CondLaws.{cond_of, cond_by}
 

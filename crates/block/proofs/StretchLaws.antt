@@ -10,7 +10,7 @@ use Rattle.doubles.specs.Operators.{◌<ᶠ◌, ◌≤ᶠ◌}
 use Rattle.profile.specs.declared.Profile.{Profile}
 use Rattle.block.specs.Blocks.{duration, no_interval, interval_between, block_of, inside}
 use Rattle.block.specs.Selection.{selected}
-use Rattle.block.specs.Plans.{in_order, IntervalOf, none, some, BlockOf, chosen, refusal}
+use Rattle.block.specs.Plans.{in_order, IntervalOf, none, some, BlockOf, chosen}
 use Rattle.block.specs.declared.Stretch.TheVariants.{Between, From}
 use Rattle.block.specs.declared.Interval.{Interval}
 use Rattle.block.specs.declared.Block.{Block}

@@ -1,5 +1,6 @@
 // Selection among the accepted profiles of a move: the shortest one, and the stretches of time that no profile has.
 // What block.rs declares, by value.
+#![tactic(auto)]
 
 ghost use Rattle.std.specs.Prelude.{◌≡◌, ◌≤◌};
 ghost use Rattle.block.specs.Blocks.{total, duration, no_interval, interval_from, interval_between, block_of};
