@@ -7,7 +7,7 @@ use native.Mathlib.Nat.{eq-or-lt_of_le, eq-zero-or-pos}
 use native.Mathlib.Decide.{dec_le}
 use native.Mathlib.Omega.{arith}
 use lib.Ieee.{Float, nan}
-use lib.ListN.{length, get_or, set, replicate, length-set, length-replicate, get_or-replicate}
+use lib.ListN.{get_or, set, replicate, length-set, get_or-replicate}
 use lib.Seq.{get_or-set_same, get_or-set_other}
 use Rattle.profile.specs.Boundary.{start_of, target_of, empty_profile, with_boundary, boundary_from}
 use Rattle.profile_rows.specs.Rows.{rows_of}
@@ -19,7 +19,7 @@ use Rattle.profile.specs.declared.ControlSigns.TheVariants.{UDDU}
 use Rattle.candidates.specs.Try.{passes, profile_of}
 use Rattle.candidates.specs.declared.Try.{Try}
 use Rattle.candidates.specs.List.{slot, profile_in, stored, added, fresh_list}
-use Rattle.candidates.specs.Counted.{Counted, AcceptedOf, Sized, EightRows, Ready, Sound}
+use Rattle.candidates.specs.Counted.{Counted, AcceptedOf, EightRows, Ready, Sound}
 use Rattle.candidates.specs.declared.Candidates.{Candidates}
 use Rattle.candidates.proofs.CheckLaws.{checked_yes, start_of_law, target_of_law, brake_of, accel_of}
 use Rattle.candidates.proofs.CountLaws.{from_brake, from_accel, five_or_below, index_above, index_below}

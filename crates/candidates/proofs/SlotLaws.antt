@@ -1,31 +1,29 @@
 -- What an accepted try does to the slots. Assumes nothing.
 use Prim.Native.Nat.{ℕ, ◌+◌, ◌<◌, ◌≤◌}
 use mathlib.Core.Path.{◌≡◌, sym, ap, ◌∙◌}
-use mathlib.Core.List.{List, map}
+use mathlib.Core.List.{List}
 use native.Mathlib.Omega.{arith}
-use lib.ListN.{length, get_or, set, length-set, length-map}
+use lib.ListN.{length, get_or, set, length-set}
 use lib.Seq.{get_or-set_same, set-get_or, set_out}
 use borrow.Author.Tests.{lt-ltb, le-ltb}
 use mir.Val.{Val}
 use denote.Shadow.{shadow}
 use Rattle.profile.specs.Boundary.{empty_profile, boundary_from}
 use Rattle.profile.specs.declared.Profile.{Profile}
-use Rattle.profile.specs.contracts.Profile.{the_field}
 use Rattle.candidates.specs.contracts.Candidates as list
 use Rattle.candidates.specs.Try.{profile_of}
 use Rattle.candidates.specs.declared.Try.{Try}
-use Rattle.candidates.specs.List.{slot, profile_in, stored, added}
+use Rattle.candidates.specs.List.{profile_in, stored, added}
 use Rattle.candidates.specs.declared.Candidates.{Candidates}
 
 -- within a list, it doesn't matter what lies past its end
 pub get_d_within : {A : Type 0} (l : List A) (i : ℕ) (d e : A) → i < length l → get_or l i d ≡ get_or l i e
 get_d_within {A} l i d e h = ap (λ (z : List A). get_or z i d) (sym (set-get_or l i e)) ∙ get_or-set_same l i (get_or l i e) d h
 
--- what the machine holds as a list has six slots: the generated fact says of an array how many elements it has, each
--- taken to what memory holds
+-- what the machine holds as a list has six slots: the generated fact says of an array how many elements it has
 pub six_slots : (c : Candidates) (vs : List Val) → shadow ((list.the_field).row.own_val ((list.the_type).to c) vs)
     → length c.valid_profiles ≡ 6
-six_slots c vs g = sym (length-map c.valid_profiles the_field.into) ∙ g.1.1.0.1.0.1
+six_slots c vs g = g.1.1.0.1.0.1
 
 -- these slots, of which the first n count
 abbrev counting : List Profile → ℕ → Candidates

@@ -2,7 +2,7 @@
 -- The slot at the index is where the next try is made. It holds a boundary, and in the Rust the times of the tries that
 -- failed there; here a try that fails leaves the list as it is, since no family reads a slot's times and no plan shows
 -- a slot that doesn't count.
-use Rattle.std.specs.Prelude.{ℕ, ◌+◌, cond, List, ltb, get_or, set, replicate}
+use Rattle.std.specs.Prelude.{ℕ, ◌+◌, cond, ltb, get_or, set, replicate}
 use Rattle.profile.specs.Boundary.{empty_profile, boundary_from}
 use Rattle.profile.specs.declared.Profile.{Profile}
 use Rattle.candidates.specs.Try.{profile_of}

@@ -1,4 +1,5 @@
 // A try that the check judges, and the list of accepted profiles.
+#![tactic(auto)]
 
 ghost use Rattle.std.specs.Prelude.{◌≡◌};
 ghost use Rattle.candidates.specs.Try.{passes, profile_of};
