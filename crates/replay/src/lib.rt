@@ -1,4 +1,5 @@
 // The exact replay of a profile, and how far from its target it ends: definitions in specs/, theorems in proofs/.
+#![tactic(auto)]
 
 ghost use Rattle.replay.specs.Promise.{CheckEndsAt};
 

@@ -3,12 +3,11 @@
 use denote.Floats.{passes}
 use Rattle.profile.proofs.MachineLaws.{of_machine}
 use Rattle.replay.proofs.CheckedReplay.{ProfileFits, check_ends_at}
-use Rattle.replay.proofs.replay_bound.Statement.{statement}
-use Rattle.replay.proofs.replay_bound.Tie as tie
+use Rattle.replay.proofs.replay_bound.Goals as goal
 
-returns : tie.Need-returns
+pub returns : goal.returns
 returns c =
-    let m = of_machine c.args.q _ c.well-formed.0 in
+    let m = of_machine c.args.q _ c.well_formed.0 in
     let d : ProfileFits c.args.q (λ i. c.args.jf) =
     record {
       start = record { p = m.p.doubles 0; v = m.v.doubles 0; a = m.a.doubles 0 };
@@ -19,6 +18,3 @@ returns c =
       af = m.af;
     } in
     check_ends_at _ _ _ _ _ _ d (search passes) (search passes)
-
-pub replay-bound-spec : {M : Type 1} → statement M
-replay-bound-spec = tie.close (tie.spec returns)
