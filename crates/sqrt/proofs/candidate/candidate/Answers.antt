@@ -1,0 +1,7 @@
+-- `sqrt::candidate::candidate` meets its contract. Assumes nothing.
+use Rattle.sqrt.specs.Candidate.{candidate_of}
+use Rattle.sqrt.proofs.candidate.candidate.Goals as goal
+
+pub returns : goal.returns
+unfolding candidate_of
+returns c = rw (c.leading_digits-a.ensures, c.first_guess-g.ensures)
