@@ -7,9 +7,7 @@ use lib.Bits.{and_mask}
 use lib.Pow.{pow_pos, pow-add, pow_mono}
 use Rattle.words.proofs.WideLaws.{upper_part}
 use Rattle.third_angle_cosine.specs.Scaled.{Shifted}
-use borrow.Author.Rules.{rules}
-use Rattle.third_angle_cosine.proofs.certificate.shifted.Statement.{statement}
-use Rattle.third_angle_cosine.proofs.certificate.shifted.Tie as tie
+use Rattle.third_angle_cosine.proofs.certificate.shifted.Goals as goal
 
 module _ (n y : ℕ) (fits : n < 2 ^ 53) (h : y < 54) where
   most : n * 2 ^ y < 2 ^ 106
@@ -26,9 +24,6 @@ module _ (n y : ℕ) (fits : n < 2 ^ 53) (h : y < 54) where
         low_fits = omega arith;
       }
 
-returns : tie.Need-returns
+pub returns : goal.returns
 returns c = rw (and_mask (c.args.significand * 2 ^ c.args.shift % 2 ^ 64) 54)
     (limbs c.args.significand c.args.shift c.requires.0 c.requires.1)
-
-pub shifted-spec : {M : Type 1} → statement M
-shifted-spec = tie.close (tie.spec (λ c. search rules) (λ c. search rules) (λ c. search rules) returns)
