@@ -1,4 +1,6 @@
 // The fields of a double's bit pattern.
+#![tactic(auto)]
+
 ghost use Rattle.std.specs.Prelude.{◌<◌};
 ghost use Rattle.bits.specs.Fields.{Normalized};
 

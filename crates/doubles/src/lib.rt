@@ -1,4 +1,6 @@
 // Small functions on doubles. The crate's larger part is in specs/ and proofs/: exact values of doubles and rounding errors.
+#![tactic(auto)]
+
 ghost use Rattle.std.specs.Prelude.{◌≡◌};
 ghost use Rattle.std.specs.Float.Ieee.Scale.{finite};
 ghost use Rattle.doubles.specs.Constants.{eps};
