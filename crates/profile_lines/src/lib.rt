@@ -1,6 +1,8 @@
 // A profile as the fields of a line: direction, limits, control signs, then its doubles in the order of the profile's
 // layout, as hexadecimal digits of their bits, a space in front of each.
 // Text goes into a lent slice: each function says which bytes it stores there, and answers the index behind them.
+#![tactic(auto)]
+
 ghost use Rattle.std.specs.Prelude.{◌≡◌, ◌+◌, ◌*◌, ◌≤◌, length};
 ghost use Rattle.profile_lines.specs.Text.{Puts};
 ghost use Rattle.profile_lines.specs.Fields.{direction_name, limits_name, control_signs_name, field, hex};
