@@ -1,0 +1,89 @@
+-- `third_angle_sine::digits::sine_pattern` meets its contract. Assumes nothing.
+use mathlib.Core.Path.{◌≡◌, sym, subst}
+use Prim.Native.Nat.{ℕ, ◌+◌, ◌-◌, ◌*◌, ◌^◌, ◌%◌, ◌≤◌, ◌<◌}
+use native.Mathlib.Omega.{arith}
+use lib.Ieee.{binary64, of_bits}
+use Rattle.elementary.specs.Binade.{RoundsTo}
+use Rattle.elementary.specs.Functions.{third_angle_sine_of}
+use Rattle.elementary.proofs.Binade.{rounds_fits}
+use Rattle.angle.specs.Arguments.{size_of}
+use Rattle.angle.proofs.Values.{size_pos, size_most}
+use Rattle.third_angle_sine.proofs.Rounding.{scaled, above_half, rounded_pattern}
+use Rattle.third_angle_sine.proofs.digits.sine_pattern.Goals as goal
+
+-- `third_angle_sine::digits::sine_pattern` meets its contract. Assumes nothing.
+
+-- what a significand r in the binade of e gives, where v is the size of t
+module _ (sign m e v r : ℕ) (bit : sign < 2) (least : 0x3c80_0000_0000_0000 ≤ m) (below : m < 0x3ff0_0000_0000_0000)
+    (small : e < 28) (size : v ≡ size_of m) (rounds : RoundsTo (scaled sign v e) r) where
+  most : r ≤ 2 ^ 53
+  most = rounds_fits (scaled sign v e) r rounds
+
+  result : ((1021 - e) * 2 ^ 52 + r < 0x7ff0_0000_0000_0000)
+      × (of_bits binary64 ((1021 - e) * 2 ^ 52 + r) ≡ third_angle_sine_of (of_bits binary64 (sign * 2 ^ 63 + m)))
+  result = (
+    let h = most in omega arith,
+    rounded_pattern sign m e bit least below (let z : e ≤ 1021 = omega arith in z) r
+        (subst (λ (u : ℕ). RoundsTo (scaled sign u e) r) size rounds),
+  )
+
+  shifted : ((1021 - e) * 2 ^ 52 % 2 ^ 64 + r < 0x7ff0_0000_0000_0000)
+      × (of_bits binary64 ((1021 - e) * 2 ^ 52 % 2 ^ 64 + r) ≡ third_angle_sine_of (of_bits binary64 (sign * 2 ^ 63 + m)))
+  shifted =
+      subst (λ (x : ℕ). (x + r < 0x7ff0_0000_0000_0000)
+      × (of_bits binary64 (x + r) ≡ third_angle_sine_of (of_bits binary64 (sign * 2 ^ 63 + m))))
+      (let z : (1021 - e) * 2 ^ 52 ≡ (1021 - e) * 2 ^ 52 % 2 ^ 64 = omega arith in z) result
+
+is_zero : (s r u e : ℕ) → s ≡ 0 → RoundsTo (scaled 0 u e) r → RoundsTo (scaled s u e) r
+is_zero s r u e z h = subst (λ (x : ℕ). RoundsTo (scaled x u e) r) (sym z) h
+
+is_one : (s r u e : ℕ) → s < 2 → (s ≡ 0 → ⊥) → RoundsTo (scaled 1 u e) r → RoundsTo (scaled s u e) r
+is_one s r u e l n h = subst (λ (x : ℕ). RoundsTo (scaled x u e) r) (let z : 1 ≡ s = omega arith in z) h
+
+pub binade-e-requires : goal.binade-e-requires
+binade-e-requires c = (
+  subst (λ (u : ℕ). 0 < u) (sym c.size_of-u.ensures)
+      (size_pos c.args.m c.requires.1 c.requires.2),
+  subst (λ (u : ℕ). u ≤ 2 ^ 128 - 2 ^ 75) (sym c.size_of-u.ensures)
+      (size_most c.args.m c.requires.1 c.requires.2),
+)
+
+pub overflow_add-result : goal.overflow_add-result
+overflow_add-result c =
+    omega (
+      arith,
+      (shifted c.args.sign c.args.m c.binade-e.result _ c.rounded_by_digits-r.result
+          c.requires.0 c.requires.1 c.requires.2 c.binade-e.ensures.1
+          c.size_of-u.ensures
+          (is_zero c.args.sign c.rounded_by_digits-r.result _ c.binade-e.result
+          c.if-sign-eq0.true c.rounded_by_digits-r.ensures)).0,
+    )
+
+pub returns-then-sign-eq0 : goal.returns-then-sign-eq0
+returns-then-sign-eq0 c =
+    shifted c.args.sign c.args.m c.binade-e.result _ c.rounded_by_digits-r.result
+    c.requires.0 c.requires.1 c.requires.2 c.binade-e.ensures.1
+    c.size_of-u.ensures
+    (is_zero c.args.sign c.rounded_by_digits-r.result _ c.binade-e.result
+    c.if-sign-eq0.true c.rounded_by_digits-r.ensures)
+
+pub rounded_by_digits-requires : goal.rounded_by_digits-requires
+rounded_by_digits-requires c =
+    record { valid = (omega arith, omega arith, omega arith, omega arith); in_binade = above_half _ }
+
+pub overflow_add-result-2 : goal.overflow_add-result-2
+overflow_add-result-2 c =
+    omega (
+      arith,
+      (result c.args.sign c.args.m 0 _ c.rounded_by_digits.result c.requires.0
+          c.requires.1 c.requires.2 (omega arith) c.size_of-u.ensures
+          (is_one c.args.sign c.rounded_by_digits.result _ 0 c.requires.0 c.if-sign-eq0.false
+          c.rounded_by_digits.ensures)).0,
+    )
+
+pub returns : goal.returns
+returns c =
+    result c.args.sign c.args.m 0 _ c.rounded_by_digits.result c.requires.0
+    c.requires.1 c.requires.2 (omega arith) c.size_of-u.ensures
+    (is_one c.args.sign c.rounded_by_digits.result _ 0 c.requires.0 c.if-sign-eq0.false
+    c.rounded_by_digits.ensures)
