@@ -1,5 +1,7 @@
 // A stretch as the fields of a line: the name of its kind, and its two ends.
 // Text goes into a lent slice, as `profile_lines` puts it there.
+#![tactic(auto)]
+
 ghost use Rattle.std.specs.Prelude.{◌≡◌, ◌+◌, ◌≤◌, length};
 ghost use Rattle.profile_lines.specs.Text.{Puts};
 ghost use Rattle.profile_lines.specs.Fields.{field, double_fields};
