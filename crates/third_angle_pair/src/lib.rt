@@ -1,4 +1,6 @@
 // The cosine and the sine of a third of an angle together, by the cosine t of the angle.
+#![tactic(auto)]
+
 ghost use Rattle.std.specs.Prelude.{◌≡◌};
 ghost use Rattle.elementary.specs.Functions.{third_angle_cosine_of, third_angle_sine_of};
 
