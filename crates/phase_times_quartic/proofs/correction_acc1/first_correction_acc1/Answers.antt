@@ -9,8 +9,6 @@ use Rattle.phase_times.specs.declared.constants.Constants.{Constants}
 use Rattle.phase_times_quartic.specs.CorrectionAcc1.{orig_acc1, deriv_acc1, first_correction_acc1}
 use Rattle.phase_times_quartic.proofs.correction_acc1.first_correction_acc1.Goals as goal
 
--- `phase_times_quartic::correction_acc1::first_correction_acc1` meets its contract. Assumes nothing.
-
 -- the definition from what each step gives
 by_steps : (start : Start) (k : Constants) (m : Limits) (h0 h2 t orig deriv least : Float)
     → orig ≡ orig_acc1 start k m h0 t → deriv ≡ deriv_acc1 start m h2 t → least ≡ minᶠ (orig /ᶠ deriv) t

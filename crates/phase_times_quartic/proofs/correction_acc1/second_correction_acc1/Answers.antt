@@ -5,12 +5,11 @@ use Rattle.phase_times_quartic.proofs.correction_acc1.second_correction_acc1.Goa
 pub returns-then-abs : goal.returns-then-abs
 unfolding second_correction_acc1
 returns-then-abs c =
-    let still-off = c.before in
     rw (
-      ← still-off.orig_acc1-orig.ensures,
-      ← still-off.abs.ensures,
+      ← c.orig_acc1-orig.ensures,
+      ← c.abs.ensures,
       ← c.deriv_acc1.ensures,
-      still-off.if-abs.true,
+      c.if-abs.true,
     )
     c.third_correction_acc1.ensures
 
