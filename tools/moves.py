@@ -1,7 +1,7 @@
 #!/usr/bin/env python3
 """Moves for people: text to records, plans to tables and pictures, and when several axes can all arrive.
 
-  python3 tools/moves.py records moves.txt | target/bin/plan_full > plans.txt
+  python3 tools/moves.py records moves.txt | crates/plan_full/out/plan_full > plans.txt
   python3 tools/moves.py table plans.txt
   python3 tools/moves.py picture plans.txt --record 2 --moves moves.txt -o move2.svg
   python3 tools/moves.py arrival plans.txt --records 7,15 --picture both.svg

@@ -1,5 +1,6 @@
 """Tests of the programs plan_moves and plan_full over pipes: however their input is cut into pieces the answer is the
-same, and each record is answered as soon as it is whole. `rt check plan_moves plan_full` makes the programs; then
+same, and each record is answered as soon as it is whole. `rt run` in crates/plan_moves and in crates/plan_full makes
+the programs; then
 python3 -m unittest discover -s tools -p 'test_*.py'
 """
 from __future__ import annotations
@@ -25,9 +26,9 @@ SECONDS = 20  # how long a line may take, on a busy machine too
 
 
 def program(name: str) -> str:
-    path = ROOT / "target" / "bin" / name
+    path = ROOT / "crates" / name / "out" / name
     if not path.exists():
-        sys.exit(f"{path}: not there; `rt check {name}` makes it")
+        sys.exit(f"{path}: not there; `rt run` in crates/{name} makes it")
     return str(path)
 
 

@@ -1,7 +1,7 @@
 #!/usr/bin/env python3
 """How many plain moves are refused in each unit of length.
 
-  rt check plan_moves
+  (cd crates/plan_moves && rt run </dev/null)
   python3 tools/units.py
 
 A carriage goes from rest to rest. The same moves are written in metres, millimetres and so on, and planned. The
@@ -21,7 +21,7 @@ from typing import NamedTuple
 
 from girnhusk.movefile import Move, to_record
 
-PLANNER = Path(__file__).resolve().parent.parent / "target" / "bin" / "plan_moves"
+PLANNER = Path(__file__).resolve().parent.parent / "crates" / "plan_moves" / "out" / "plan_moves"
 UNITS = (("m", 1), ("mm", 10**3), ("0.1 mm", 10**4), ("µm", 10**6), ("nm", 10**9))  # how many are a metre
 TRAVEL, LEAST_DISTANCE = 3000, 100  # mm
 BOUNDS = (0, 8e3, 16e3, 1e5, 1e6, 1e11)  # of a_max, in whichever unit
@@ -104,10 +104,10 @@ def main() -> int:
     parser.add_argument("--count", metavar="N", type=int, default=2000, help="moves of each kind (default: 2000)")
     parser.add_argument("--seed", metavar="N", type=int, default=1, help="what the moves are drawn from (default: 1)")
     parser.add_argument("--accelerations", action="store_true", help="count also by the number that a_max is")
-    parser.add_argument("--planner", metavar="FILE", default=str(PLANNER), help="default: target/bin/plan_moves")
+    parser.add_argument("--planner", metavar="FILE", default=str(PLANNER), help="default: crates/plan_moves/out/plan_moves")
     arguments = parser.parse_args()
     if not Path(arguments.planner).is_file():
-        print(f"{arguments.planner}: not there; `rt check plan_moves` makes it", file=sys.stderr)
+        print(f"{arguments.planner}: not there; `rt run` in crates/plan_moves makes it", file=sys.stderr)
         return 1
     print(f"refused of {arguments.count} moves each, seed {arguments.seed}: rest to rest, 0.1 to 3 m")
     print("\n".join(map(axis_words, AXES)) + "\n")

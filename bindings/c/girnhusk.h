@@ -1,7 +1,7 @@
 /*
  * Girnhusk: a motion planner for one machine axis, proved.
  *
- * The functions of libgirnhusk.a, which `rt staticlib girnhusk` writes to target/staticlib. It is for x86-64 Linux
+ * The functions of libgirnhusk.a, which `rt lib` in crates/girnhusk writes to its folder out. It is for x86-64 Linux
  * only: no Arm, no other system.
  *
  * What each function gives is proved for every argument: no double makes one fail, and none keeps state, allocates or
