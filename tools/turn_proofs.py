@@ -69,6 +69,7 @@ class Turn:
             if old and not re.fullmatch(re.escape(old) + r"(-\d+)+", step):
                 self.steps[dashed(old)] = step
         self.made = {place[2][1] for place in entry["places"]}
+        self.made |= {"not-" + m[3:] for m in self.made if m.startswith("in-")}
         # the facts of an arm, by the variant's step
         self.arms, of_place = {}, {}
         for place in entry["places"]:
@@ -163,6 +164,14 @@ class Turn:
         # parameters that a pattern or `self` had counted names for
         for old, new in self.entry["args"]:
             s = re.sub(re.escape(old.replace(" ", "")) + r"(?![\w-])", lambda m, new=new: new.replace(" ", ""), s)
+
+        # arms of a match on a number
+        keys = [(p[2][1], p) for p in self.entry["places"] if re.match(r"At-match-keys\d+$", p[0])]
+        for n, (new, p) in enumerate(keys, 1):
+            s = re.sub(r"\.match\.keys" + str(n) + r"(?![\w])", f".{new}.is", s)
+        if keys and ".match.rest." in s:
+            # that no key was met has no name today, and is found
+            s = re.sub(r"(\n\S+ c =)(?:(?!\n\S).)*\.match\.rest\..*", r"\1 search rules", s, flags=re.S)
 
         # steps
         def step(m):
@@ -490,6 +499,8 @@ def turn_file(crate, path, entry, where):
     def write(name, parts, given):
         body = "\n\n".join((c + "\n" if c else "") + b.rstrip() for c, b in parts)
         lines = [u for u in (used(u, body) for u in uses) if u]
+        if "search rules" in body and not any(re.search(r"\brules\b", u) for u in lines):
+            lines.insert(0, "use Rattle.std.proofs.Common.{rules}")
         places = sorted(p for p in t.named if re.search(re.escape(p) + r"(?![\w-])", body))
         if places:
             given = [f"{{{', '.join(places)}}}", given] if given == "Goals" else [given]

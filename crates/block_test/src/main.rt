@@ -3,6 +3,7 @@
 // block: t_min, and for each stretch its kind, a byte, and two ends; and four times. A line is `refused` and the
 // number, or `ok`, the plan's duration, the mark of its profile, and for each stretch its kind, ends and the mark of
 // the profile beside it; then what `is_blocked` says of each time, for the block selected and for the block given.
+#![tactic(auto)]
 
 mod records; // records.rt: what the bytes of a record mean
 mod lines; // lines.rt: the line that answers a record
