@@ -1,24 +1,17 @@
 -- `third_angle_cosine::digits::cosine_pattern` meets its contract. Assumes nothing.
-use mathlib.Core.Path.{sym, subst}
-use Prim.Native.Nat.{ℕ, ◌^◌, ◌≤◌, ◌<◌}
+use mathlib.Core.Path.{◌≡◌, sym, subst}
+use Prim.Native.Nat.{ℕ, ◌^◌, ◌<◌}
 use native.Mathlib.Omega.{arith}
 use Rattle.elementary.specs.Binade.{RoundsTo}
 use Rattle.elementary.proofs.Binade.{rounds_fits}
 use Rattle.angle.specs.Arguments.{size_of}
 use Rattle.angle.proofs.Values.{size_lt}
 use Rattle.third_angle_cosine.proofs.Rounding.{scaled, in_binade, rounded_pattern}
-use Rattle.third_angle_cosine.proofs.digits.cosine_pattern.Goals.{After-rounded_by_digits}
 use Rattle.third_angle_cosine.proofs.digits.cosine_pattern.Goals as goal
 
-module _ (c : After-rounded_by_digits) where
-  rounds : RoundsTo (scaled c.args.sign (size_of c.args.m))
-      c.rounded_by_digits.result
-  rounds = subst (λ (u : ℕ). RoundsTo (scaled c.args.sign u) c.rounded_by_digits.result)
-      c.size_of-u.ensures c.rounded_by_digits.ensures
-
-  most : c.rounded_by_digits.result ≤ 2 ^ 53
-  most = rounds_fits (scaled c.args.sign (size_of c.args.m))
-      c.rounded_by_digits.result rounds
+-- what the digits give, for the size as the definition has it
+rounds : (sign m u r : ℕ) → u ≡ size_of m → RoundsTo (scaled sign u) r → RoundsTo (scaled sign (size_of m)) r
+rounds sign m u r e h = subst (λ (x : ℕ). RoundsTo (scaled sign x) r) e h
 
 pub rounded_by_digits-requires : goal.rounded_by_digits-requires
 rounded_by_digits-requires c =
@@ -30,11 +23,11 @@ rounded_by_digits-requires c =
     }
 
 pub overflow_add-result : goal.overflow_add-result
-overflow_add-result c = omega (arith, most c)
+overflow_add-result c = omega (arith, rounds_fits _ _ (rounds _ _ _ _ c.size_of-u.ensures c.rounded_by_digits.ensures))
 
 pub returns : goal.returns
 returns c = (
-  omega (arith, most c),
+  omega (arith, rounds_fits _ _ (rounds _ _ _ _ c.size_of-u.ensures c.rounded_by_digits.ensures)),
   rounded_pattern c.args.sign c.args.m c.requires.0 c.requires.2
-      c.requires.1 c.rounded_by_digits.result (rounds c),
+      c.requires.1 c.rounded_by_digits.result (rounds _ _ _ _ c.size_of-u.ensures c.rounded_by_digits.ensures),
 )
