@@ -169,15 +169,16 @@ class Turn:
         keys = [(p[2][1], p) for p in self.entry["places"] if re.match(r"At-match-keys\d+$", p[0])]
         for n, (new, p) in enumerate(keys, 1):
             s = re.sub(r"\.match\.keys" + str(n) + r"(?![\w])", f".{new}.is", s)
-        if keys and ".match.rest." in s:
+        if keys and ".match.rest" in s:
             # that no key was met has no name today, and is found
-            s = re.sub(r"(\n\S+ c =)(?:(?!\n\S).)*\.match\.rest\..*", r"\1 search rules", s, flags=re.S)
+            s = re.sub(r"(\n\S+ c =)(?:(?!\n\S).)*\.match\.rest(?!\w).*", r"\1 search rules", s, flags=re.S)
 
         # steps
         def step(m):
             word = dashed(m.group(1))
-            if word in self.steps:
-                return "." + self.steps[word]
+            for w in (word, word[:1].lower() + word[1:]):
+                if w in self.steps:
+                    return "." + self.steps[w]
             if m.group(1) in self.made:
                 return m.group(0)
             # names of the source

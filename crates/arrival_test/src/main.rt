@@ -2,6 +2,8 @@
 // `arrivals` has it. A record is two bytes, how many durations and how many ends, then these as big-endian doubles. A
 // line is `ok`, the time and the axis, or `refused` and the number. The input ends at a record that isn't whole or has
 // too many doubles. oracle/tools/make_stored.py makes the stored input and output.
+#![tactic(auto)]
+
 ghost use Rattle.std.specs.Prelude.{◌≡◌, ◌+◌, ◌*◌, ◌≤◌, length, take};
 ghost use Rattle.io.specs.Counts.{IsPrefixLen};
 ghost use Rattle.profile_lines.specs.Text.{Puts};

@@ -2,6 +2,8 @@
 // (start, target, seven times, the jerk, v_max, v_min, a_max, a_min), then limits, control signs and `set_limits`, a
 // byte each. A line is `no`, or `yes` and the profile: direction, limits, control signs, then its doubles as
 // hexadecimal digits of their bits.
+#![tactic(auto)]
+
 ghost use Rattle.std.specs.Prelude.{◌+◌, ◌≤◌, length};
 ghost use Rattle.io.specs.Counts.{IsPrefixLen};
 ghost use Rattle.profile_lines.specs.Text.{Puts};

@@ -1,0 +1,18 @@
+-- `profile_test::records::checked_of` meets its contract. Assumes nothing.
+use Rattle.profile_test.specs.Records.{checked_of}
+use Rattle.profile_test.proofs.records.checked_of.Goals as goal
+
+pub returns : goal.returns
+unfolding checked_of
+returns c =
+    rw (
+      c.check.ensures,
+      c.profile_of.ensures,
+      c.bounds_of.ensures,
+      c.control_signs_of-signs.ensures,
+      c.limits_of-reached.ensures,
+      c.byte_at.ensures.0,
+      c.byte_at-2.ensures.0,
+      c.byte_at-set_limits.ensures.0,
+      c.double_at-jf.ensures,
+    )
