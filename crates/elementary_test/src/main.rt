@@ -1,6 +1,8 @@
 // Reads doubles of eight bytes, the highest first, and writes a line for each: its square root, its cube root, and the
 // cosine and the sine of a third of the angle whose cosine it is, as hexadecimal digits of their bits.
 // tools/elementary_vectors.py makes the stored input and output.
+#![tactic(auto)]
+
 ghost use Rattle.io.specs.Counts.{IsPrefixLen};
 ghost use Rattle.profile_lines.specs.Text.{Puts};
 ghost use Rattle.elementary_test.specs.Lines.{line_of};
