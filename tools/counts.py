@@ -22,7 +22,7 @@ WIDTHS = {
     "third_angle_cosine", "third_angle_pair", "third_angle_sine",
     "cosine", "estimates", "sine", "third_angle",  # as they were called
 }
-PATH = re.compile(r"\.before(?:\s+\.before)*")
+PATH = re.compile(r"\.before(?:\s*\.before)*")
 NUMBER = re.compile(rf"(?<![\w.·-])({'|'.join(map(str, LAYOUT))})(?:[iu](?:8|16|32|64|128|size))?(?![\w·-]|\.\d)")
 # A byte's place in a record of a test program, which has a layout of its own.
 OWN_PLACE = re.compile(r"(double_at b|doubleAt b|get_or b|getD b|double_at\(bytes,|byte_at\(bytes,) \d+")

@@ -8,8 +8,9 @@ import counts
 
 class Counted(unittest.TestCase):
     def test_runs(self):
-        text = "c .before .before\n    .before .before .before .1\n" + "d" + " .before" * 10 + " .good .before\n"
+        text = "c.before.before\n    .before.before.before.1\n" + "d" + ".before" * 10 + ".well_formed.before\n"
         self.assertEqual([counts.runs(text, least) for least in (1, 5, 6, 10, 11)], [3, 2, 1, 1, 0])
+        self.assertEqual(counts.runs(text.replace(".", " ."), 5), 2)
 
     def test_long_lines(self):
         self.assertEqual(counts.long_lines("≤" * 120 + "\n" + "≤" * 121 + "\n", 120), 1)
@@ -39,7 +40,7 @@ class Counted(unittest.TestCase):
             for path, text in {
                 "crates.txt": "# NAME: DEP\nmoves:\nlines staticlib: moves\n",
                 "crates/moves/src/lib.rt": "fn one() {}\nfn two() {\n    three(107)\n}\n",
-                "crates/moves/proofs/Laws.antt": "law = c .before .before .before .before .before " + "x" * 80 + "\n",
+                "crates/moves/proofs/Laws.antt": "law = c.before.before.before.before.before " + "x" * 80 + "\n",
                 "crates/moves/must-fail/wrong.edit": "",
                 "crates/moves/out/kept/Laws.antt": "law = 1\n",
             }.items():
