@@ -2,6 +2,7 @@
 // which holds a try or none, in the Rust's order. What a try's times are stands in `phase_times` and the crates beside
 // it; which try is where stands here; what is done with them is `search`'s. No try depends on what the check says of
 // another. The definitions that the contracts cite are in specs/.
+#![tactic(auto)]
 
 mod families; // families.rt: the families by name, and what the tries of one share
 mod slots; // slots.rt: the slots of any family
