@@ -1,9 +1,9 @@
 -- What is left of a search from a place on: the tries of a stage from a slot on, and the stages after it. Assumes
 -- nothing.
-use Prim.Native.Nat.{ℕ, zero, suc, ◌+◌, ◌-◌, ◌≤◌, ◌<◌}
+use Prim.Native.Nat.{ℕ, suc, ◌+◌, ◌-◌, ◌≤◌, ◌<◌}
 use mathlib.Core.Path.{◌≡◌, refl, sym, ap, ◌∙◌}
 use mathlib.Core.Bool.{Bool, true, false, cond, not, ◌&&◌, ◌||◌, true≢false}
-use mathlib.Core.List.{List, [], ◌∷◌, map}
+use mathlib.Core.List.{List, [], ◌∷◌}
 use native.Mathlib.Numerals.{add-one}
 use native.Mathlib.Omega.{arith}
 use borrow.Author.Tests.{ltb-true, ltb-false, le-ltb, not-true, not-false}
@@ -20,7 +20,7 @@ use Rattle.profile.specs.declared.Start.{Start}
 use Rattle.profile.specs.declared.Target.{Target}
 use Rattle.profile.specs.declared.Limits.{Limits}
 use Rattle.phase_times.specs.declared.constants.Constants.{Constants}
-use Rattle.trees.specs.Tree.{done, bind, run}
+use Rattle.trees.specs.Tree.{run}
 use Rattle.trees.specs.InTurn.{in_turn}
 use Rattle.trees.specs.Stages.{in_stages}
 use Rattle.trees.proofs.TreeLaws.{run_bind}
@@ -37,7 +37,7 @@ use Rattle.position_third_step1.specs.declared.families.Family.{Family}
 use Rattle.position_third_step1.specs.declared.families.Family.TheVariants.{None}
 use Rattle.position_third_step1.specs.declared.families.Shared.{Shared}
 use Rattle.position_third_step1.proofs.CountLaws.{four_slots}
-use Rattle.search.specs.Stages.{limits_for, stage_at, stages_from, is_found, stage_tries, search_of}
+use Rattle.search.specs.Stages.{limits_for, stage_at, stages_from, is_found, search_of}
 use Rattle.search.specs.declared.stages.Kind.{Kind}
 use Rattle.search.specs.declared.stages.Stage.{Stage}
 

@@ -1,6 +1,7 @@
 // One search for every move: it walks the stages of the move and the slots of each stage, puts each try to the check,
 // and adds those that are accepted to the list. Start, target, constants, limits and the list go in by value; the list
 // is changed in place inside, and comes back.
+#![tactic(auto)]
 
 ghost use Rattle.std.specs.Prelude.{◌≡◌, cond, ◌-◌};
 ghost use Rattle.position_third_step1.specs.CheckTree.{found};
