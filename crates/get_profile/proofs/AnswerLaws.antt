@@ -31,6 +31,7 @@ use Rattle.position_third_step1.specs.CheckTree.{TryWith}
 use Rattle.position_third_step1.specs.TimeAllSingleStep.{time_all_single_step}
 use Rattle.position_third_step1.proofs.FamilyLaws.{found_sound, single_step_accepted}
 use Rattle.block.specs.Blocks.{duration, no_interval, interval_from, block_of, planned, refused}
+use Rattle.block.specs.declared.Answer.{Answer}
 use Rattle.block.specs.Selection.{removal, selected}
 use Rattle.block.specs.Plans.{Each, EachAfter}
 use Rattle.block.proofs.MemberLaws.{alone_each, from_each, selected_each, selected_duration, refused_empty}

@@ -21,7 +21,7 @@ use Rattle.trees.proofs.TreeLaws.{all_no_bind, all_no_questions}
 use Rattle.candidates.specs.Try.{passes}
 use Rattle.candidates.specs.declared.Try.{Try}
 use Rattle.candidates.specs.List.{slot, fresh_list}
-use Rattle.position_third_step1.specs.TimeAllSingleStep.{refusal, time_all_single_step}
+use Rattle.position_third_step1.specs.TimeAllSingleStep.{time_all_single_step}
 use Rattle.position_third_step1.proofs.FamilyLaws.{single_step_none}
 use Rattle.block.specs.Blocks.{planned, refused}
 use Rattle.block.specs.Selection.{removal, selected}

@@ -1,4 +1,5 @@
 // `get_profile` of position_third_step1.rs: what the search for a move finds, and what is selected of it.
+#![tactic(auto)]
 
 ghost use Rattle.std.specs.Prelude.{◌≡◌};
 ghost use Rattle.get_profile.specs.GetProfile.{after_passing, single_step_from, get_profile_answer};
