@@ -11,7 +11,7 @@ use lib.Ieee.{Float}
 use Rattle.doubles.specs.Operators.{at}
 use Rattle.doubles.specs.Value.{Finite}
 use Rattle.block.specs.declared.Block.{Block}
-use Rattle.arrival.specs.Axes.{axis_of, free}
+use Rattle.arrival.specs.Axes.{axis_of}
 use Rattle.arrival.specs.Arrivals.{arrival_number, wrong_count, WellFormed, FreeForAll, IsArrival}
 use Rattle.arrival.specs.declared.answer.Arrival.{Arrival}
 use Rattle.arrival.specs.declared.answer.Arrival.TheVariants.{At, Malformed, Never}

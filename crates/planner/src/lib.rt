@@ -1,5 +1,6 @@
 // The planner: a move in, its plan or a refusal by number out. What is promised of it is in specs/Promise.antt
 // and specs/Arrival.antt.
+#![tactic(auto)]
 
 ghost use Rattle.std.specs.Prelude.{◌≡◌};
 ghost use Rattle.planner.specs.Answers.{finite_start, finite_target, finite_limits, finite_move, wrong_sign, wrong_duration, input_of, answer_of};
