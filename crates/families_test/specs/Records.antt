@@ -10,7 +10,6 @@ use Rattle.profile.specs.declared.Target.{Target}
 use Rattle.profile.specs.declared.Limits.{Limits}
 use Rattle.profile_check.specs.declared.Checked.{Checked}
 use Rattle.phase_times.specs.Constants.{constants_of}
-use Rattle.phase_times.specs.declared.constants.Constants.{Constants}
 use Rattle.trees.specs.Tree.{run}
 use Rattle.candidates.specs.Try.{passes}
 use Rattle.candidates.specs.declared.Candidates.{Candidates}

@@ -6,6 +6,8 @@
 // count of 0 with them. Where some count such a family adds none.
 // oracle/tools/make_stored.py makes the stored input and output.
 
+#![tactic(auto)]
+
 mod records; // records.rt: what the bytes of a record mean
 mod lines; // lines.rt: the line that answers a record
 

@@ -1,0 +1,12 @@
+-- `families_test::records::before_turning` meets its contract. Assumes nothing.
+use Rattle.search.specs.Choices.{points_up, towards_target}
+use Rattle.profile.proofs.SwapLaws.{swapped_twice}
+use Rattle.families_test.proofs.records.before_turning.Goals as goal
+
+pub returns-then-k : goal.returns-then-k
+unfolding towards_target points_up
+returns-then-k c = rw c.if-k.true
+
+pub returns : goal.returns
+unfolding towards_target points_up
+returns c = rw (c.if-k.false, c.swapped.ensures) (swapped_twice _)
