@@ -1,4 +1,5 @@
 // Moves as bytes and answers as text: the records and lines of the programs `plan_moves` and `plan_full`.
+#![tactic(auto)]
 
 mod records; // records.rt: reading a record
 mod fields; // fields.rt: the fields of a line that aren't a profile's

@@ -28,7 +28,7 @@ unfolding axis_in axis_of_plan plan_numbers interval_numbers profile_numbers pro
 axis_in_plan b rest = refl
 
 -- ---- planning: nothing is written unless the status is 0
-never : {A : Type 0} → ◌≡◌ {A = ℕ} wrong_length 0 → A
+pub never : {A : Type 0} → ◌≡◌ {A = ℕ} wrong_length 0 → A
 never z = absurd (let none : ⊥ = omega arith in none)
 
 module _ (mv buffer : List Float) where

@@ -1,5 +1,6 @@
 // A move and its plan in buffers of doubles, for callers in other languages. The layouts are those of planner's and
 // this crate's specs/Layout.antt.
+#![tactic(auto)]
 
 ghost use Rattle.std.specs.Prelude.{◌≡◌};
 ghost use Rattle.plan_buffer.specs.Layout.{plan_length};

@@ -1,0 +1,15 @@
+-- `plan_buffer::write::put_profile` meets its contract. Assumes nothing.
+use mathlib.Core.Path.{ap, ◌∙◌}
+use Rattle.plan_buffer.specs.Layout.{numeral}
+use Rattle.plan_buffer.proofs.LayoutLaws.{profile_stored}
+use Rattle.plan_buffer.proofs.write.put_profile.Goals as goal
+
+pub returns : goal.returns
+returns c =
+    profile_stored _ _ _ _ _ _ _ _ _
+    (c.numeral.ensures ∙ ap numeral c.direction_number.ensures)
+    (c.numeral-2.ensures ∙ ap numeral c.limits_number.ensures)
+    (c.numeral-3.ensures ∙ ap numeral c.control_signs_number.ensures)
+    c.doubles-doubles.ensures
+    c.put.ensures
+    c.put-2.ensures
