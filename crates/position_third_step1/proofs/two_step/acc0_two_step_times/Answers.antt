@@ -1,4 +1,5 @@
 -- `position_third_step1::two_step::acc0_two_step_times` meets its contract. Assumes nothing.
+use mathlib.Core.Path.{◌≡◌}
 use Rattle.position_third_step1.specs.Slots.{always}
 use Rattle.position_third_step1.specs.TwoStep.{acc0_two_step_slots}
 use Rattle.position_third_step1.proofs.SlotLaws.{last_of_4}
@@ -10,7 +11,9 @@ returns-then-i-eq0 c h = rw c.if-i-eq0.true c.times_acc0_two_step.ensures
 
 pub returns-then-i-eq1 : goal.returns-then-i-eq1
 unfolding acc0_two_step_slots always
-returns-then-i-eq1 c h = rw c.if-i-eq1.true c.times_acc0_removed_pf.ensures
+returns-then-i-eq1 c h =
+    let second : c.args.i ≡ 1 = c.if-i-eq1.true in
+    rw second c.times_acc0_removed_pf.ensures
 
 pub returns-then-i-eq2 : goal.returns-then-i-eq2
 unfolding acc0_two_step_slots always
