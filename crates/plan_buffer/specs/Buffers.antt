@@ -20,7 +20,7 @@ wrong_length = 255
 
 -- ---- planning
 
--- wrongLength where the move isn't as many doubles as a move has, or the buffer has no room for a plan;
+-- wrong_length where the move isn't as many doubles as a move has, or the buffer has no room for a plan;
 -- else 0 for a plan, or the number of its refusal
 unfoldable pub plan_status : (mv buffer : List Float) → ℕ
 plan_status mv buffer =
@@ -73,7 +73,7 @@ is_blocked_from buffer t = (t <ᶠ at buffer duration_at) || inside_at buffer st
 unfoldable pub blocking_from : List Float → Float → ℕ
 blocking_from buffer t = blocking_number (cond (finite t) (cond (is_blocked_from buffer t) Blocked Free) NotFinite)
 
--- wrongLength where the buffer is shorter than a plan
+-- wrong_length where the buffer is shorter than a plan
 unfoldable pub blocked_status : List Float → Float → ℕ
 blocked_status buffer t = cond (ltb (length buffer) plan_length) wrong_length (blocking_from buffer t)
 
