@@ -120,7 +120,7 @@ module _ (start : Start) (target : Target) (k : Constants) (m : Limits) (c : Can
         ∙ three_first (none_tries start target k n) (acc0_tries start target k n) (acc1_tries start target k n) c
         ∙ ap (λ (n : Limits). called true c (time_all_none_acc0_acc1 c start target k n true)) towards
 
--- ---- the single_step path: the list's first profile, and whether it counts
+-- ---- the single-step path: the list's first profile, and whether it counts
 abbrev first_of : Candidates → Checked
 first_of c = record { ok = is_found c; profile = slot c 0 }
 
