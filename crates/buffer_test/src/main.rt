@@ -2,6 +2,7 @@
 // two bytes, how many doubles of the move are handed over and how many the plan's buffer has, then 16 big-endian
 // doubles, the move's first, and a time. A line is the status of planning; the buffer's doubles if that is 0, else
 // `unchanged` or `changed`; and the status of asking the buffer about the time.
+#![tactic(auto)]
 
 mod records; // records.rt: what the bytes of a record mean
 mod lines; // lines.rt: the line that answers a record
