@@ -1,4 +1,6 @@
 // What programs in C and Rust link: the functions of the archive libgirnhusk.a, with plain numbers for arguments.
+#![tactic(auto)]
+
 ghost use Rattle.std.specs.Prelude.{◌≡◌};
 ghost use Rattle.elementary.specs.Functions.{sqrt_of, cbrt_of, third_angle_cosine_of, third_angle_sine_of};
 ghost use Rattle.plan_buffer.specs.Buffers.{Planned, HoldsJoinable, Asked};

@@ -1,5 +1,6 @@
 // Document 01's shop checks, and worked moves and records beside them, as contracts: no code. All are proved by
 // computation.
+#![tactic(auto)]
 
 ghost use Rattle.shop_checks.specs.ShopChecks.{ShopChecks};
 ghost use Rattle.shop_checks.specs.WorkedMoves.{PromiseApplies, RefusalsInOrder, RefusedRecords};
