@@ -1,6 +1,8 @@
 // Reads the coefficients of quartics, four big-endian doubles each, and writes a line for each: how many roots it has
 // that are at least 0, and the roots in reading order by the hexadecimal digits of their bits, as the oracle's program
 // `quartics` has them. oracle/tools/make_stored.py makes the stored input and output.
+#![tactic(auto)]
+
 ghost use Rattle.std.specs.Prelude.{◌≡◌, ◌+◌, ◌≤◌, length, take};
 ghost use Rattle.io.specs.Counts.{IsPrefixLen};
 ghost use Rattle.profile_lines.specs.Text.{Puts};
