@@ -23,7 +23,7 @@ use Rattle.block.specs.declared.Blocking.TheVariants.{Blocked, Free}
 use Rattle.block.proofs.StretchLaws.{from_as_between}
 use Rattle.arrival.specs.Axes.{missing, blocks, free, wrong_stretch, wrong_axis}
 use Rattle.planner.specs.Arrival.{axis_of_plan}
-use Rattle.planner.proofs.DurationLaws.{Part, duration_finite, duration_at_least_zero, durations_in_order}
+use Rattle.planner.proofs.PartLaws.{Part, duration_finite, duration_at_least_zero, durations_in_order}
 
 -- ---- which times are free
 

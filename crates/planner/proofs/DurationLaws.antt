@@ -1,5 +1,4 @@
--- A duration, which is a total with brake and accel: it is finite, at least 0, and not shorter where the total isn't
--- less. Assumes nothing.
+-- The duration of an accepted profile with its brake and accel: it is finite and at least 0. Assumes nothing.
 use Prim.Native.Nat.{ℕ, ◌+◌, ◌-◌, ◌*◌, ◌^◌, ◌≤◌, ◌<◌}
 use native.Mathlib.Nat.{le_of_mul-le-mul_left, one-le-pow, mul-le-mul_right, zero-lt-suc}
 use native.Mathlib.Omega.{arith}
@@ -13,22 +12,22 @@ use lib.Ieee.Exact.{HasValue, units_val}
 use lib.Ieee.Fits.{round_is, add-fits}
 use lib.Ieee.Order.{drop, kept}
 use lib.Ieee.Scale.{grid, overflow, finite}
-use Rattle.doubles.specs.Operators.{◌+ᶠ◌, ◌<ᶠ◌, at}
+use Rattle.doubles.specs.Operators.{◌+ᶠ◌, ◌<ᶠ◌, ◌≤ᶠ◌, at}
 use Rattle.doubles.specs.Constants.{0ᶠ}
-use Rattle.doubles.specs.Signed.{Signed, ◌⊕◌, ◌⊙◌, Near, size, AtMost}
-use Rattle.doubles.specs.Value.{magnitude, value, val, Fits, Finite, AtLeastZero}
+use Rattle.doubles.specs.Signed.{Signed, zeroˢ, ◌⊕◌, ◌⊙◌, Near, size, AtMost}
+use Rattle.doubles.specs.Value.{magnitude, value, val, Fits, Finite, NotNegative}
 use Rattle.doubles.specs.Error.{ErrorAtMost}
 use Rattle.doubles.specs.Error.{W}
 use Rattle.doubles.proofs.DoubleLaws.{add64}
+use Rattle.doubles.proofs.ValueLaws.{zero_value}
 use Rattle.doubles.proofs.RoundLaws.{round_error_whole}
 use Rattle.doubles.proofs.OperationLaws.{Fractions, operands, swapped, sum_units, difference_units}
-use Rattle.doubles.proofs.OrderLaws.{not-lt→atmost, not_negative}
-use Rattle.doubles.proofs.SumLaws.{add_not_negative, not_negative_less, less_not_negative}
-use Rattle.doubles.proofs.ComparisonLaws.{at_most_not_below}
-use Rattle.doubles.proofs.SumOrderLaws.{at_least_zero_finite, add_at_least_zero, add_in_order}
+use Rattle.doubles.proofs.OrderLaws.{not-lt→atmost, atmost→le, not_negative}
+use Rattle.doubles.proofs.SumLaws.{add_not_negative, bounded_finite, not_negative_less, less_not_negative}
 use Rattle.profile.specs.Tolerances.{t_max}
 use Rattle.profile_rows.specs.Rows.{sums}
 use Rattle.doubles.proofs.CondLaws.{cond_of}
+use Rattle.replay.proofs.DurationBound.{Time}
 use Rattle.replay.proofs.ReplayBound.{t_max_fits, t_max_finite}
 
 -- ---- a sum of two that are far below the format's largest value is finite, in either format
@@ -78,11 +77,11 @@ add_stays_finite f (fin s m e) (fin t n d) p q i k h =
     (magnitude f (fin t n d)) (operands f s m e t n d p q) h
 
 -- ---- doubles from 0 to n units
-record UpTo (n : ℕ) (x : Float) : Type 0 where
-  fits : Fits x
-  finite : Finite x
-  less : (val x).less ≡ 0
-  most : (val x).plus ≤ n
+pub record UpTo (n : ℕ) (x : Float) : Type 0 where
+  pub fits : Fits x
+  pub finite : Finite x
+  pub less : (val x).less ≡ 0
+  pub most : (val x).plus ≤ n
 
 magnitude_at_most : (f : Format) (x : Float) (n : ℕ) → (value f x).less ≡ 0 → (value f x).plus ≤ n → magnitude f x ≤ n
 unfolding value
@@ -102,7 +101,7 @@ at_most_twice x y r n m a b c k l h =
         → W * rp + W * (xl + yl) ≤ W * (xp + yp) + W * rl + e → rp ≤ 2 * (n + m)
     side xp xl yp yl rp rl e a b c s k l h = omega arith
 
-plus_up_to : (x y : Float) (n m : ℕ) → UpTo n x → UpTo m y → 2 * (n + m) < overflow binary64
+pub plus_up_to : (x y : Float) (n m : ℕ) → UpTo n x → UpTo m y → 2 * (n + m) < overflow binary64
     → UpTo (2 * (n + m)) (x +ᶠ y)
 plus_up_to x y n m a b h =
     let i : Finite (x +ᶠ y) = add_stays_finite binary64 x y a.fits b.fits a.finite b.finite
@@ -123,79 +122,82 @@ plus_up_to x y n m a b h =
     below x y n m o k l h = omega arith
 
 -- ---- 1e12, in units
-longest : ℕ
+unfoldable pub longest : ℕ
 longest = (val t_max).plus
 
-two_longest : 2 * (longest + longest) < overflow binary64
+pub two_longest : 2 * (longest + longest) < overflow binary64
 unfolding longest value magnitude of_bits
 two_longest = lit< tt
 
-three_longest : 2 * (2 * (longest + longest) + longest) < overflow binary64
+pub three_longest : 2 * (2 * (longest + longest) + longest) < overflow binary64
 unfolding longest value magnitude of_bits
 three_longest = lit< tt
 
-zero_is : 0ᶠ ≡ fin false 0 (pos 0)
+pub zero_is : 0ᶠ ≡ fin false 0 (pos 0)
 unfolding of_bits
 zero_is = refl
 
--- ---- a part of a duration, which a total, brake and accel are: a double from 0 to 1e12
-pub record Part (t : Float) : Type 0 where
-  pub fits : Fits t
-  pub at_least_zero : AtLeastZero t
-  pub within : (t_max <ᶠ t) ≡ false
+-- a finite double that is not below 0, and one that is not above 1e12 besides
+pub time : (t : Float) → Fits t → Finite t → T (not (t <ᶠ 0ᶠ)) → Time t
+time t p i h = record { fits = p; finite = i; less = not_negative binary64 t p i (rw zero_is at h) }
 
-part_up_to : (t : Float) → Part t → UpTo longest t
+up_to_longest : (t : Float) → Time t → T (not (t_max <ᶠ t)) → UpTo longest t
 unfolding longest
-part_up_to t a =
-    let i : Finite t = at_least_zero_finite t t_max a.at_least_zero t_max_finite a.within in
-    let l : (val t).less ≡ 0 = not_negative binary64 t a.fits i
-    (rw zero_is at (no (t <ᶠ 0ᶠ) (at_most_not_below 0ᶠ t a.at_least_zero))) in
+up_to_longest t a h =
     record {
       fits = a.fits;
-      finite = i;
-      less = l;
-      most = side (val t) (val t_max) l
-          (not-lt→atmost binary64 t_max t t_max_fits a.fits t_max_finite i (no (t_max <ᶠ t) a.within));
+      finite = a.finite;
+      less = a.less;
+      most = side (val t) (val t_max) a.less
+          (not-lt→atmost binary64 t_max t t_max_fits a.fits t_max_finite a.finite h);
     }
   where
-    no : (b : Bool) → b ≡ false → T (not b)
-    no b e = rw e tt
-
     side : (x y : Signed) → x.less ≡ 0 → AtMost x y → x.plus ≤ y.plus
     side x y e h = omega arith
 
--- ---- a duration is finite, and at least 0
-module _ (s brake accel : Float) (hs : Part s) (hb : Part brake) (ha : Part accel) where
-  pub duration_finite : Finite (s +ᶠ brake +ᶠ accel)
-  duration_finite =
-      (plus_up_to (s +ᶠ brake) accel _ _
-      (plus_up_to s brake _ _ (part_up_to s hs) (part_up_to brake hb) two_longest)
-      (part_up_to accel ha) three_longest).finite
+at_least_zero : (x : Float) (n : ℕ) → UpTo n x → T (0ᶠ ≤ᶠ x)
+at_least_zero x n a =
+    rw zero_is (atmost→le binary64 (fin false 0 (pos 0)) x (unfold fits in tt) a.fits tt a.finite
+    (rw (zero_value binary64 false) (side (val x) a.less)))
+  where
+    side : (y : Signed) → y.less ≡ 0 → AtMost zeroˢ y
+    side y e = omega arith
 
-  pub duration_at_least_zero : AtLeastZero (s +ᶠ brake +ᶠ accel)
-  duration_at_least_zero =
-      add_at_least_zero binary64 (s +ᶠ brake) accel
-      (add_at_least_zero binary64 s brake hs.at_least_zero hb.at_least_zero) ha.at_least_zero
+-- ---- the sum of seven times is no NaN: it is finite or +∞
+record Sum (s : Float) : Type 0 where
+  fits : Fits s
+  not_negative : NotNegative binary64 s
 
-  -- and one with a total that isn't less isn't shorter
-  pub durations_in_order : (r : Float) → Part r → (r <ᶠ s) ≡ false
-      → (r +ᶠ brake +ᶠ accel <ᶠ s +ᶠ brake +ᶠ accel) ≡ false
-  durations_in_order r hr l =
-      let z = hb.at_least_zero in
-      add_in_order binary64 (s +ᶠ brake) (r +ᶠ brake) accel
-      (add_at_least_zero binary64 s brake hs.at_least_zero z)
-      (add_at_least_zero binary64 r brake hr.at_least_zero z) ha.at_least_zero
-      (add_in_order binary64 s r brake hs.at_least_zero hr.at_least_zero z l)
-
--- ---- the sum of seven times, doubles or not
-pub total_part : (t : List Float) → ((i : ℕ) → i < 7 → AtLeastZero (at t i)) → (t_max <ᶠ at (sums t) 6) ≡ false
-    → Part (at (sums t) 6)
-unfolding sums
-total_part t h w =
-    let plus : (x y : Float) → AtLeastZero x → AtLeastZero y → AtLeastZero (x +ᶠ y) = add_at_least_zero binary64 in
+infixl 20 ◌plus◌
+◌plus◌ : {s t : Float} → Sum s → Time t → Sum (s +ᶠ t)
+◌plus◌ {s} {t} a b =
     record {
-      fits = add-fits binary64 _ (at t 6);
-      at_least_zero = plus _ _ (plus _ _ (plus _ _ (plus _ _ (plus _ _ (plus _ _ (h 0 (lit< tt)) (h 1 (lit< tt)))
-          (h 2 (lit< tt))) (h 3 (lit< tt))) (h 4 (lit< tt))) (h 5 (lit< tt))) (h 6 (lit< tt));
-      within = w;
+      fits = add-fits binary64 s t;
+      not_negative = add_not_negative binary64 s t a.fits b.fits a.not_negative b.finite b.less;
     }
+
+total_sum : (t : List Float) → ((i : ℕ) → i < 7 → Time (at t i)) → Sum (at (sums t) 6)
+unfolding sums
+total_sum t a =
+    let first : Sum (at t 0) =
+    record {
+      fits = (a 0 (lit< tt)).fits;
+      not_negative = less_not_negative binary64 (at t 0) (a 0 (lit< tt)).finite (a 0 (lit< tt)).less;
+    } in
+    first plus a 1 (lit< tt) plus a 2 (lit< tt) plus a 3 (lit< tt) plus a 4 (lit< tt) plus a 5 (lit< tt)
+    plus a 6 (lit< tt)
+
+total_up_to : (s : Float) → Sum s → T (not (t_max <ᶠ s)) → UpTo longest s
+total_up_to s a h =
+    let i : Finite s = bounded_finite binary64 s t_max a.not_negative t_max_finite h in
+    up_to_longest s (record { fits = a.fits; finite = i; less = not_negative_less binary64 s a.not_negative i }) h
+
+-- ---- with brake and accel
+pub with_durations : (t : List Float) (brake accel : Float) → ((i : ℕ) → i < 7 → Time (at t i))
+    → T (not (t_max <ᶠ at (sums t) 6)) → Time brake → T (not (t_max <ᶠ brake)) → Time accel → T (not (t_max <ᶠ accel))
+    → Finite (at (sums t) 6 +ᶠ brake +ᶠ accel) × T (0ᶠ ≤ᶠ at (sums t) 6 +ᶠ brake +ᶠ accel)
+with_durations t brake accel a h b k c l =
+    let s = at (sums t) 6 in
+    let d = plus_up_to (s +ᶠ brake) accel _ _ (plus_up_to s brake _ _ (total_up_to s (total_sum t a) h)
+    (up_to_longest brake b k) two_longest) (up_to_longest accel c l) three_longest in
+    (d.finite, at_least_zero (s +ᶠ brake +ᶠ accel) _ d)

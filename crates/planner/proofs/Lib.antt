@@ -2,6 +2,7 @@
 pub mod RefusalLaws
 pub mod AcceptedLaws
 pub mod DurationLaws
+pub mod PartLaws
 pub mod TotalLaws
 pub mod AxisLaws
 pub mod PlanLaws

@@ -1,6 +1,6 @@
 -- What holds of the plan of every accepted move. Of its replay and its duration this asks that numbers are doubles, and
 -- `plan` brings it to all that the machine can hold. Assumes nothing.
-use mathlib.Core.Path.{◌≡◌}
+use mathlib.Core.Path.{◌≡◌, ◌∙◌}
 use mathlib.Core.Bool.{Bool, true, false, not, ◌&&◌, ◌||◌, true≢false}
 use mathlib.Core.Logic.{inl}
 use lib.Dec.{T}
@@ -8,7 +8,8 @@ use lib.Ieee.{Float}
 use lib.Ieee.Bits.{is_false}
 use lib.Ieee.Fits.{and_l, and_r}
 use lib.Ieee.Scale.{finite}
-use Rattle.doubles.specs.Operators.{◌<ᶠ◌, ◌≤ᶠ◌}
+use Rattle.doubles.specs.Operators.{◌+ᶠ◌, ◌<ᶠ◌, ◌≤ᶠ◌, at}
+use Rattle.profile_rows.specs.Rows.{sums}
 use Rattle.doubles.specs.Constants.{0ᶠ}
 use Rattle.doubles.specs.Value.{Fits, Finite}
 use Rattle.doubles.proofs.FunctionLaws.{holds}
@@ -31,7 +32,8 @@ use Rattle.planner.specs.Arrival.{axis_of_plan, Joinable}
 use Rattle.planner.specs.declared.Move.{Move}
 use Rattle.planner.proofs.RefusalLaws.{admitted, admitted_answer}
 use Rattle.planner.proofs.AcceptedLaws.{OfDoubles, accepted_tells, of_move, checked_for, arrives}
-use Rattle.planner.proofs.DurationLaws.{Part, duration_finite, duration_at_least_zero}
+use Rattle.planner.proofs.DurationLaws.{time, with_durations}
+use Rattle.planner.proofs.PartLaws.{Part, duration_finite, duration_at_least_zero}
 use Rattle.planner.proofs.TotalLaws.{accepted_total}
 use Rattle.planner.proofs.AxisLaws.{Lasting, plan_right}
 
@@ -130,8 +132,18 @@ module _ (x : Move) (accepted : (answer_of x).refusal ≡ 0) where
         duration_is = unfold duration in (rw ((of_move x q h).brake_is, (of_move x q h).accel_is));
       }
 
-  t_min_is : (answer_of x).block.t_min ≡ duration (answer_of x).block.p_min
-  t_min_is = rw answer_is ((answered (input_of x) x.limits).lasts (rw answer_is at accepted))
+  t_min_is : (answer_of x).block.t_min ≡ at (sums (answer_of x).block.p_min.t) 6 +ᶠ x.brake +ᶠ x.accel
+  unfolding duration total
+  t_min_is =
+      let q = (answer_of x).block.p_min in
+      let t : (answer_of x).block.t_min ≡ duration q = rw answer_is
+      ((answered (input_of x) x.limits).lasts (rw answer_is at accepted)) in
+      let s = (accepted_tells x q accepted_each.shortest).motion.t_sum in
+      let m = plan_of_move.shortest in
+      t ∙ rw (s, m.brake_is, m.accel_is)
+
+  t_min_lasts : (answer_of x).block.t_min ≡ duration (answer_of x).block.p_min
+  t_min_lasts = rw answer_is ((answered (input_of x) x.limits).lasts (rw answer_is at accepted))
 
   pub plan_lasts : Fits x.brake → Fits x.accel
       → Finite (answer_of x).block.t_min × T (0ᶠ ≤ᶠ (answer_of x).block.t_min)
@@ -140,20 +152,28 @@ module _ (x : Move) (accepted : (answer_of x).refusal ≡ 0) where
       let k = lasting q accepted_each.shortest in
       let hb = brake_part b in
       let ha = accel_part a in
-      rw (t_min_is, k.duration_is) (
+      rw (t_min_lasts, k.duration_is) (
         duration_finite (total q) x.brake x.accel k.total_is hb ha,
         holds _ (duration_at_least_zero (total q) x.brake x.accel k.total_is hb ha),
       )
 
   pub plan_duration : Fits x.brake → Fits x.accel → OfDoubles (answer_of x).block.p_min
       → Finite (answer_of x).block.t_min × T (0ᶠ ≤ᶠ (answer_of x).block.t_min)
-  plan_duration b a d = plan_lasts b a
+  plan_duration b a d =
+      let q = (answer_of x).block.p_min in
+      let h = accepted_each.shortest in
+      let s = (accepted_tells x q h).motion in
+      let w = durations_within in
+      rw t_min_is
+      (with_durations q.t x.brake x.accel
+      (λ i l. time (at q.t i) (d.times i l) ((arrives x q h d).moving.finite.t i l) (s.times i l)) s.sum
+      (time x.brake b durations_finite.0 w.0) w.1 (time x.accel a durations_finite.1 w.2) w.3)
 
   -- and as an axis number 9 doesn't turn it back
   pub plan_joinable : Fits x.brake → Fits x.accel → wrong_axis (axis_of_plan (answer_of x).block) ≡ false
   plan_joinable b a =
       plan_right x.brake x.accel (brake_part b) (accel_part a) (AcceptedFor (input_of x) x.limits) lasting
-      (answer_of x).block t_min_is accepted_each.shortest
+      (answer_of x).block t_min_lasts accepted_each.shortest
       (rw answer_is (answered_after (input_of x) x.limits (rw answer_is at accepted)))
 
 -- ---- what is promised of an answer

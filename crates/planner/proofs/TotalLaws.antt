@@ -20,7 +20,7 @@ use Rattle.profile_check.specs.Accepted.{AcceptedMotion, row_at}
 use Rattle.block.specs.Blocks.{total}
 use Rattle.replay.proofs.ExactMotion.{Phase, next_row}
 use Rattle.replay.proofs.PhaseErrors.{before_finite}
-use Rattle.planner.proofs.DurationLaws.{Part, total_part}
+use Rattle.planner.proofs.PartLaws.{Part, total_part}
 
 module _ (q : Profile) (set-limits : Bool) (jf : Float) (m : Limits) (s : AcceptedMotion q set-limits jf m) where
   last_finite : Finite (at q.v 7)
