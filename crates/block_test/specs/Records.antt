@@ -50,7 +50,10 @@ selected_of b = selected (slot (profiles_of b)) (get_or b 0 0)
 -- ---- the block: t_min at 151, then for each of two stretches its kind, left end and right end; its profiles are empty
 unfoldable pub interval_at : List ℕ → ℕ → Interval
 interval_at b at =
-    record { stretch = stretch_of (get_or b at 0) (double_at b (at + 1)) (double_at b (at + 9)); profile = empty_profile }
+    record {
+      stretch = stretch_of (get_or b at 0) (double_at b (at + 1)) (double_at b (at + 9));
+      profile = empty_profile;
+    }
 
 unfoldable pub given_of : List ℕ → Block
 given_of b = record { t_min = double_at b 151; p_min = empty_profile; a = interval_at b 159; b = interval_at b 176 }

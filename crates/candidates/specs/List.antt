@@ -33,4 +33,7 @@ added c x = stored c (profile_in c x)
 
 -- a fresh planner's list: empty profiles, the first with the boundary of the input
 unfoldable pub fresh_list : Profile → Candidates
-fresh_list input = record { valid_profiles = set (replicate 6 empty_profile) 0 (boundary_from empty_profile input); current_index = 0 }
+fresh_list input = record {
+  valid_profiles = set (replicate 6 empty_profile) 0 (boundary_from empty_profile input);
+  current_index = 0;
+}

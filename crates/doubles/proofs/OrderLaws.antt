@@ -152,14 +152,14 @@ below→lt f (fin s m e) (fin t n d) p q i k h =
     value_below f s t (m * up e * down d) (n * up d * down e) (down e * down d) (magnitude f (fin s m e))
     (magnitude f (fin t n d)) (operands f s m e t n d p q) h
 
-pub not-lt→atmost : (f : Format) (x y : Float) → T (fits f x) → T (fits f y) → T (finite x) → T (finite y)
+pub not_lt→atmost : (f : Format) (x y : Float) → T (fits f x) → T (fits f y) → T (finite x) → T (finite y)
     → T (not (lt x y)) → AtMost (value f y) (value f x)
 unfolding lt value
-not-lt→atmost f nan y p q i k h = absurd i
-not-lt→atmost f (inf s) y p q i k h = absurd i
-not-lt→atmost f (fin s m e) nan p q i k h = absurd k
-not-lt→atmost f (fin s m e) (inf t) p q i k h = absurd k
-not-lt→atmost f (fin s m e) (fin t n d) p q i k h =
+not_lt→atmost f nan y p q i k h = absurd i
+not_lt→atmost f (inf s) y p q i k h = absurd i
+not_lt→atmost f (fin s m e) nan p q i k h = absurd k
+not_lt→atmost f (fin s m e) (inf t) p q i k h = absurd k
+not_lt→atmost f (fin s m e) (fin t n d) p q i k h =
     not_below_value f s t (m * up e * down d) (n * up d * down e) (down e * down d) (magnitude f (fin s m e))
     (magnitude f (fin t n d)) (operands f s m e t n d p q) h
 
@@ -199,5 +199,5 @@ not_negative f x p i h =
     let z = fin false 0 (pos 0) in
     let a : AtMost zeroˢ (value f x) =
     subst (λ (v : Signed). AtMost v (value f x)) (zero_value f false)
-    (not-lt→atmost f x z p (unfold fits in tt) i tt h) in
+    (not_lt→atmost f x z p (unfold fits in tt) i tt h) in
     elim (one_part f x) [ inl e ↦ e | inr e ↦ omega arith ]

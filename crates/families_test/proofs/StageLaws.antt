@@ -25,12 +25,15 @@ use Rattle.position_third_step1.specs.TimeAllVel.{all_vel_tries, time_all_vel}
 use Rattle.position_third_step1.specs.TimeAcc0Acc1.{acc0_acc1_tries, time_acc0_acc1}
 use Rattle.position_third_step1.specs.TimeAllNoneAcc0Acc1.{none_tries, acc0_tries, acc1_tries, none_acc0_acc1_tries}
 use Rattle.position_third_step1.specs.TimeAllNoneAcc0Acc1.{time_all_none_acc0_acc1}
-use Rattle.position_third_step1.specs.TwoStep.{acc1_vel_two_step_tries, acc0_two_step_tries, vel_two_step_tries, none_two_step_tries}
-use Rattle.position_third_step1.specs.TwoStep.{time_acc1_vel_two_step, time_acc0_two_step, time_vel_two_step, time_none_two_step}
+use Rattle.position_third_step1.specs.TwoStep.{acc1_vel_two_step_tries, acc0_two_step_tries, vel_two_step_tries}
+use Rattle.position_third_step1.specs.TwoStep.{none_two_step_tries}
+use Rattle.position_third_step1.specs.TwoStep.{time_acc1_vel_two_step, time_acc0_two_step, time_vel_two_step}
+use Rattle.position_third_step1.specs.TwoStep.{time_none_two_step}
 use Rattle.position_third_step1.specs.TimeAllSingleStep.{single_step_tries, refusal, acceptance, first_accepted}
 use Rattle.position_third_step1.specs.TimeAllSingleStep.{time_all_single_step}
 use Rattle.search.specs.Choices.{towards_target}
-use Rattle.search.specs.Stages.{limits_for, polynom_family, resting_family, two_step_family, resting_stage, moving_stage}
+use Rattle.search.specs.Stages.{limits_for, polynom_family, resting_family, two_step_family, resting_stage}
+use Rattle.search.specs.Stages.{moving_stage}
 use Rattle.search.specs.Stages.{two_step_stage, stage_at, stages_from, is_found, search_of}
 use Rattle.search.proofs.FoundLaws.{added_found}
 use Rattle.search.specs.declared.stages.Kind.TheVariants.{SingleStep, Resting, Moving}

@@ -17,7 +17,8 @@ use Rattle.position_third_step1.specs.CheckTree.{CheckTree, found}
 use Rattle.position_third_step1.specs.TimeAllVel.{time_all_vel}
 use Rattle.position_third_step1.specs.TimeAcc0Acc1.{time_acc0_acc1}
 use Rattle.position_third_step1.specs.TimeAllNoneAcc0Acc1.{time_all_none_acc0_acc1}
-use Rattle.position_third_step1.specs.TwoStep.{time_acc1_vel_two_step, time_acc0_two_step, time_vel_two_step, time_none_two_step}
+use Rattle.position_third_step1.specs.TwoStep.{time_acc1_vel_two_step, time_acc0_two_step, time_vel_two_step}
+use Rattle.position_third_step1.specs.TwoStep.{time_none_two_step}
 use Rattle.position_third_step1.specs.TimeAllSingleStep.{time_all_single_step}
 use Rattle.search.specs.Stages.{is_found}
 
@@ -29,7 +30,13 @@ unfoldable pub target_of : List ℕ → Target
 target_of b = record { pf = double_at b 24; vf = double_at b 32; af = double_at b 40 }
 
 unfoldable pub limits_of : List ℕ → Limits
-limits_of b = record { v_max = double_at b 48; v_min = double_at b 56; a_max = double_at b 64; a_min = double_at b 72; j_max = double_at b 80 }
+limits_of b = record {
+  v_max = double_at b 48;
+  v_min = double_at b 56;
+  a_max = double_at b 64;
+  a_min = double_at b 72;
+  j_max = double_at b 80;
+}
 
 -- an empty profile with the record's boundary
 unfoldable pub boundary_of : List ℕ → Profile

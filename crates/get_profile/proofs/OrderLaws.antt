@@ -10,7 +10,8 @@ use Rattle.phase_times.specs.declared.constants.Constants.{Constants}
 use Rattle.position_third_step1.specs.TimeAllVel.{time_all_vel}
 use Rattle.position_third_step1.specs.TimeAcc0Acc1.{time_acc0_acc1}
 use Rattle.position_third_step1.specs.TimeAllNoneAcc0Acc1.{time_all_none_acc0_acc1}
-use Rattle.position_third_step1.specs.TwoStep.{time_acc1_vel_two_step, time_acc0_two_step, time_vel_two_step, time_none_two_step}
+use Rattle.position_third_step1.specs.TwoStep.{time_acc1_vel_two_step, time_acc0_two_step, time_vel_two_step}
+use Rattle.position_third_step1.specs.TwoStep.{time_none_two_step}
 use Rattle.search.specs.Choices.{towards_target}
 use Rattle.get_profile.specs.Families.{Search, each_of, first_of}
 use Rattle.get_profile.specs.Calls.{FamilyName, all_vel, none_acc0_acc1, acc0_acc1, none_two_step, acc0_two_step}

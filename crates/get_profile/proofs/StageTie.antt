@@ -24,8 +24,10 @@ use Rattle.position_third_step1.specs.CheckTree.{CheckTree, found}
 use Rattle.position_third_step1.specs.Families.{tries_of}
 use Rattle.position_third_step1.specs.TimeAllNoneAcc0Acc1.{none_acc0_acc1_tries}
 use Rattle.position_third_step1.specs.TimeAllSingleStep.{single_step_tries, refusal, acceptance, time_all_single_step}
-use Rattle.position_third_step1.proofs.FamilyTries.{all_vel_tries_law, none_tries_law, acc0_tries_law, acc1_tries_law, acc0_acc1_tries_law}
-use Rattle.position_third_step1.proofs.FamilyTries.{none_two_step_tries_law, acc0_two_step_tries_law, vel_two_step_tries_law}
+use Rattle.position_third_step1.proofs.FamilyTries.{all_vel_tries_law, none_tries_law, acc0_tries_law, acc1_tries_law}
+use Rattle.position_third_step1.proofs.FamilyTries.{acc0_acc1_tries_law}
+use Rattle.position_third_step1.proofs.FamilyTries.{none_two_step_tries_law, acc0_two_step_tries_law}
+use Rattle.position_third_step1.proofs.FamilyTries.{vel_two_step_tries_law}
 use Rattle.position_third_step1.proofs.FamilyTries.{acc1_vel_two_step_tries_law, single_step_tries_law}
 use Rattle.position_third_step1.specs.declared.families.Family.{Family}
 use Rattle.position_third_step1.specs.declared.families.Family.TheVariants.{AllVel, None, Acc0, Acc1, Acc0Acc1}
@@ -34,7 +36,8 @@ use Rattle.position_third_step1.specs.declared.families.Family.TheVariants.{Acc1
 use Rattle.search.specs.Choices.{has_zero_limit, ends_at_rest, rests_at_target, towards_target}
 use Rattle.search.specs.Stages.{kind_by, kind_of, limits_for, stage_at, stage_count, stages_from, is_found, stage_tries}
 use Rattle.search.specs.Stages.{search_of}
-use Rattle.search.specs.Stages.{polynom_family, resting_family, two_step_family, resting_stage, moving_stage, two_step_stage}
+use Rattle.search.specs.Stages.{polynom_family, resting_family, two_step_family, resting_stage, moving_stage}
+use Rattle.search.specs.Stages.{two_step_stage}
 use Rattle.search.proofs.FoundLaws.{added_found}
 use Rattle.search.specs.declared.stages.Kind.{Kind}
 use Rattle.search.specs.declared.stages.Kind.TheVariants.{Itself, Resting, Moving}

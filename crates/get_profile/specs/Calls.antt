@@ -10,7 +10,8 @@ use Rattle.position_third_step1.specs.CheckTree.{tries}
 use Rattle.position_third_step1.specs.TimeAllVel.{all_vel_tries}
 use Rattle.position_third_step1.specs.TimeAcc0Acc1.{acc0_acc1_tries}
 use Rattle.position_third_step1.specs.TimeAllNoneAcc0Acc1.{none_acc0_acc1_tries}
-use Rattle.position_third_step1.specs.TwoStep.{acc1_vel_two_step_tries, acc0_two_step_tries, vel_two_step_tries, none_two_step_tries}
+use Rattle.position_third_step1.specs.TwoStep.{acc1_vel_two_step_tries, acc0_two_step_tries, vel_two_step_tries}
+use Rattle.position_third_step1.specs.TwoStep.{none_two_step_tries}
 use Rattle.get_profile.specs.Families.{Search}
 
 -- the families by the Rust's names

@@ -1,5 +1,6 @@
 -- Many records at once: their lines one behind the other, and how many of them are answered. Definitions only.
-use Rattle.std.specs.Prelude.{ℕ, zero, suc, ◌+◌, ◌*◌, ◌≤◌, ◌<◌, ◌≡◌, Bool, true, cond, ◌&&◌, List, [], ◌++◌, length, take, drop}
+use Rattle.std.specs.Prelude.{ℕ, zero, suc, ◌+◌, ◌*◌, ◌≤◌, ◌<◌, ◌≡◌, Bool, true, cond, ◌&&◌, List, [], ◌++◌, length}
+use Rattle.std.specs.Prelude.{take, drop}
 use Rattle.profile_lines.specs.Text.{Puts}
 use Rattle.block.specs.declared.Answer.{Answer}
 use Rattle.moves.specs.Records.{record_length, record_of}

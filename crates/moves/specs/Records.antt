@@ -1,6 +1,7 @@
 -- What the bytes of a record mean: a two-byte length, a version, then the move's doubles in the order of its layout,
 -- the highest byte of each number first. Definitions only.
-use Rattle.std.specs.Prelude.{ℕ, ◌+◌, ◌*◌, ◌≡◌, Bool, true, false, not, cond, ◌||◌, List, ◌↔◌, eqb, ltb, length, get_or, Float}
+use Rattle.std.specs.Prelude.{ℕ, ◌+◌, ◌*◌, ◌≡◌, Bool, true, false, not, cond, ◌||◌, List, ◌↔◌, eqb, ltb, length}
+use Rattle.std.specs.Prelude.{get_or, Float}
 use Rattle.std.proofs.Math.Option.{Option, none, some}
 use Rattle.encoding.specs.Encoding.{double_at}
 use Rattle.profile.specs.Layout.{firsts}

@@ -7,7 +7,8 @@ ghost use Rattle.block.specs.Blocks.{count_of, ends_of};
 ghost use Rattle.decimals.specs.Decimal.{decimal};
 ghost use Rattle.stretch_lines.specs.Kinds.{both_ends_width};
 ghost use Rattle.moves.specs.Lines.{stretch_fields, plan_fields, refusal_fields, interval_fields, full_fields};
-ghost use Rattle.moves.specs.Lines.{count_width, stretches_width, plan_width, refusal_width, interval_width, full_width};
+ghost use Rattle.moves.specs.Lines.{count_width, stretches_width, plan_width, refusal_width, interval_width};
+ghost use Rattle.moves.specs.Lines.{full_width};
 
 use block::{Block, Interval, Stretch};
 use decimals::put_number;

@@ -2,7 +2,8 @@
 
 ghost use Rattle.std.specs.Prelude.{◌≡◌, ◌+◌, ◌≤◌, length};
 ghost use Rattle.profile_lines.specs.Text.{Puts};
-ghost use Rattle.moves.specs.Lines.{line_of, full_line_of, answer_fields, full_answer_fields, plan_width, full_width, line_length, full_line_length};
+ghost use Rattle.moves.specs.Lines.{line_of, full_line_of, answer_fields, full_answer_fields, plan_width, full_width};
+ghost use Rattle.moves.specs.Lines.{line_length, full_line_length};
 
 use crate::fields::{put_full_plan, put_plan, put_refusal};
 use block::Answer;

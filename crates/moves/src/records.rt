@@ -4,7 +4,8 @@
 ghost use Rattle.std.specs.Prelude.{◌≡◌, ◌+◌, ◌*◌, ◌<◌, ◌≤◌, length};
 ghost use Rattle.profile.specs.Layout.{firsts};
 ghost use Rattle.planner.specs.Layout.{move_length};
-ghost use Rattle.moves.specs.Records.{record_body, record_length, record_version, double, record_move, is_malformed, Reads};
+ghost use Rattle.moves.specs.Records.{record_body, record_length, record_version, double, record_move, is_malformed};
+ghost use Rattle.moves.specs.Records.{Reads};
 
 use crate::Record;
 use encoding::{byte_at, double_at};

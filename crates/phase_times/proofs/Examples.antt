@@ -11,7 +11,8 @@ use Rattle.profile.specs.declared.Limits.{Limits}
 use Rattle.phase_times.specs.declared.constants.Constants.{Constants}
 use Rattle.phase_times.specs.Constants.{constants_of}
 use Rattle.phase_times.specs.TimeAllVel.{t3_acc0_acc1_vel, times_acc0_acc1_vel, times_acc1_vel, times_vel}
-use Rattle.phase_times.specs.TimeAcc0Acc1.{acc0_acc1_radicand, acc0_acc1_h1, acc0_acc1_h2, acc0_acc1_h3, admits_acc0_acc1_solution2, times_acc0_acc1_solution1}
+use Rattle.phase_times.specs.TimeAcc0Acc1.{acc0_acc1_radicand, acc0_acc1_h1, acc0_acc1_h2, acc0_acc1_h3}
+use Rattle.phase_times.specs.TimeAcc0Acc1.{admits_acc0_acc1_solution2, times_acc0_acc1_solution1}
 
 abbrev rest : Start
 rest = record { p0 = 0ᶠ; v0 = 0ᶠ; a0 = 0ᶠ }

@@ -1,7 +1,8 @@
 // Phase times of the four tries of time_all_vel, and what its square roots are taken of.
 
 ghost use Rattle.std.specs.Prelude.{◌≡◌};
-ghost use Rattle.phase_times.specs.TimeAllVel.{t_acc0_radicand, t_acc1_radicand, t3_acc0_acc1_vel, times_acc0_acc1_vel, times_acc1_vel, times_acc0_vel, times_vel};
+ghost use Rattle.phase_times.specs.TimeAllVel.{t_acc0_radicand, t_acc1_radicand, t3_acc0_acc1_vel};
+ghost use Rattle.phase_times.specs.TimeAllVel.{times_acc0_acc1_vel, times_acc1_vel, times_acc0_vel, times_vel};
 
 use crate::constants::Constants;
 use profile::{Limits, Start, Target};

@@ -13,7 +13,8 @@ use Rattle.phase_times.specs.declared.constants.Constants.{Constants}
 use Rattle.phase_times.specs.Constants.{constants_of}
 use Rattle.phase_times_quartic.specs.RootRange.{is_skipped}
 use Rattle.phase_times_quartic.specs.TimeNone.{h2_none, polynom_none, newton_none, corrected_none, times_none}
-use Rattle.phase_times_quartic.specs.CorrectionAcc1.{orig_acc1, deriv_acc1, first_correction_acc1, third_correction_acc1}
+use Rattle.phase_times_quartic.specs.CorrectionAcc1.{orig_acc1, deriv_acc1, first_correction_acc1}
+use Rattle.phase_times_quartic.specs.CorrectionAcc1.{third_correction_acc1}
 
 abbrev rest : Start
 rest = record { p0 = 0ᶠ; v0 = 0ᶠ; a0 = 0ᶠ }

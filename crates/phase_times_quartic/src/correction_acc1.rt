@@ -1,7 +1,9 @@
 // The corrections of a root of the try ACC1 (regarding pd): one to three Newton steps.
 
 ghost use Rattle.std.specs.Prelude.{◌≡◌};
-ghost use Rattle.phase_times_quartic.specs.CorrectionAcc1.{orig_acc1, deriv_acc1, first_correction_acc1, third_correction_acc1, second_correction_acc1, corrected_acc1};
+ghost use Rattle.phase_times_quartic.specs.CorrectionAcc1.{orig_acc1, deriv_acc1, first_correction_acc1};
+ghost use Rattle.phase_times_quartic.specs.CorrectionAcc1.{third_correction_acc1, second_correction_acc1};
+ghost use Rattle.phase_times_quartic.specs.CorrectionAcc1.{corrected_acc1};
 
 use doubles::EPSILON;
 use phase_times::constants::Constants;

@@ -1,7 +1,8 @@
 // The try ACC0 of time_all_none_acc0_acc1: its polynomial, the correction of a root, and the phase times.
 
 ghost use Rattle.std.specs.Prelude.{◌≡◌};
-ghost use Rattle.phase_times_quartic.specs.TimeAcc0.{h0_acc0, h3_acc0, h2_acc0, range_acc0, polynom_acc0, newton_acc0, corrected_acc0, times_acc0};
+ghost use Rattle.phase_times_quartic.specs.TimeAcc0.{h0_acc0, h3_acc0, h2_acc0, range_acc0, polynom_acc0};
+ghost use Rattle.phase_times_quartic.specs.TimeAcc0.{newton_acc0, corrected_acc0, times_acc0};
 
 use crate::quartic::Quartic;
 use crate::root_range::RootRange;

@@ -1,7 +1,8 @@
 // The try NONE of time_all_none_acc0_acc1: its polynomial, the correction of a root, and the phase times.
 
 ghost use Rattle.std.specs.Prelude.{◌≡◌};
-ghost use Rattle.phase_times_quartic.specs.TimeNone.{h2_none, polynom_none, newton_none, corrected_none, range_none, times_none};
+ghost use Rattle.phase_times_quartic.specs.TimeNone.{h2_none, polynom_none, newton_none, corrected_none, range_none};
+ghost use Rattle.phase_times_quartic.specs.TimeNone.{times_none};
 
 use crate::quartic::Quartic;
 use crate::root_range::RootRange;

@@ -1,7 +1,9 @@
 // Phase times of the four tries of time_acc0_two_step.
 
 ghost use Rattle.std.specs.Prelude.{◌≡◌};
-ghost use Rattle.phase_times_two_step.specs.TimeAcc0TwoStep.{times_acc0_two_step, times_acc0_removed_pf, acc0_removed_a_max_h0, acc0_removed_a_max_radicand, times_acc0_removed_a_max, times_acc0_to_a_min};
+ghost use Rattle.phase_times_two_step.specs.TimeAcc0TwoStep.{times_acc0_two_step, times_acc0_removed_pf};
+ghost use Rattle.phase_times_two_step.specs.TimeAcc0TwoStep.{acc0_removed_a_max_h0, acc0_removed_a_max_radicand};
+ghost use Rattle.phase_times_two_step.specs.TimeAcc0TwoStep.{times_acc0_removed_a_max, times_acc0_to_a_min};
 
 use phase_times::constants::Constants;
 use profile::{Limits, Start, Target};

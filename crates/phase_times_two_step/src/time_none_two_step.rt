@@ -1,7 +1,8 @@
 // Phase times of the two tries of time_none_two_step.
 
 ghost use Rattle.std.specs.Prelude.{◌≡◌};
-ghost use Rattle.phase_times_two_step.specs.TimeNoneTwoStep.{none_two_step_radicand, times_none_two_step, times_none_single_step};
+ghost use Rattle.phase_times_two_step.specs.TimeNoneTwoStep.{none_two_step_radicand, times_none_two_step};
+ghost use Rattle.phase_times_two_step.specs.TimeNoneTwoStep.{times_none_single_step};
 
 use phase_times::constants::Constants;
 use profile::{Limits, Start, Target};

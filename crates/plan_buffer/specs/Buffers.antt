@@ -1,5 +1,6 @@
 -- What is answered of a move and of a plan that lie in buffers of doubles. Definitions only.
-use Rattle.std.specs.Prelude.{ℕ, ◌+◌, ◌≡◌, Bool, false, not, cond, ◌&&◌, ◌||◌, List, ◌++◌, eqb, ltb, length, drop, Float}
+use Rattle.std.specs.Prelude.{ℕ, ◌+◌, ◌≡◌, Bool, false, not, cond, ◌&&◌, ◌||◌, List, ◌++◌, eqb, ltb, length, drop}
+use Rattle.std.specs.Prelude.{Float}
 use Rattle.std.specs.Float.Ieee.Scale.{finite}
 use Rattle.doubles.specs.Operators.{◌<ᶠ◌, ◌==ᶠ◌, at}
 use Rattle.doubles.specs.Constants.{1ᶠ, 2ᶠ}

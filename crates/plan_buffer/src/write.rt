@@ -3,7 +3,8 @@
 ghost use Rattle.std.specs.Prelude.{◌≡◌, ◌+◌, ◌≤◌, ◌++◌, length, drop};
 ghost use Rattle.profile.specs.Names.{direction_number, limits_number, control_signs_number};
 ghost use Rattle.block.specs.Blocks.{kind_number};
-ghost use Rattle.plan_buffer.specs.Layout.{numeral, profile_length, interval_length, plan_length, profile_numbers, interval_numbers, plan_numbers};
+ghost use Rattle.plan_buffer.specs.Layout.{numeral, profile_length, interval_length, plan_length, profile_numbers};
+ghost use Rattle.plan_buffer.specs.Layout.{interval_numbers, plan_numbers};
 ghost use Rattle.plan_buffer.specs.Steps.{stored};
 
 use crate::layout::{DURATION_AT, ENDS_LENGTH, PROFILE_AT, STRETCH_A_AT, STRETCH_B_AT};

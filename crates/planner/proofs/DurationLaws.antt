@@ -22,7 +22,7 @@ use Rattle.doubles.proofs.DoubleLaws.{add64}
 use Rattle.doubles.proofs.ValueLaws.{zero_value}
 use Rattle.doubles.proofs.RoundLaws.{round_error_whole}
 use Rattle.doubles.proofs.OperationLaws.{Fractions, operands, swapped, sum_units, difference_units}
-use Rattle.doubles.proofs.OrderLaws.{not-lt→atmost, atmost→le, not_negative}
+use Rattle.doubles.proofs.OrderLaws.{not_lt→atmost, atmost→le, not_negative}
 use Rattle.doubles.proofs.SumLaws.{add_not_negative, bounded_finite, not_negative_less, less_not_negative}
 use Rattle.profile.specs.Tolerances.{t_max}
 use Rattle.profile_rows.specs.Rows.{sums}
@@ -149,7 +149,7 @@ up_to_longest t a h =
       finite = a.finite;
       less = a.less;
       most = side (val t) (val t_max) a.less
-          (not-lt→atmost binary64 t_max t t_max_fits a.fits t_max_finite a.finite h);
+          (not_lt→atmost binary64 t_max t t_max_fits a.fits t_max_finite a.finite h);
     }
   where
     side : (x y : Signed) → x.less ≡ 0 → AtMost x y → x.plus ≤ y.plus

@@ -12,7 +12,7 @@ use Rattle.doubles.specs.Operators.{◌+ᶠ◌, ◌<ᶠ◌, at}
 use Rattle.doubles.specs.Constants.{0ᶠ}
 use Rattle.doubles.specs.Signed.{Signed, AtMost}
 use Rattle.doubles.specs.Value.{val, Fits, Finite, AtLeastZero}
-use Rattle.doubles.proofs.OrderLaws.{not-lt→atmost, not_negative}
+use Rattle.doubles.proofs.OrderLaws.{not_lt→atmost, not_negative}
 use Rattle.doubles.proofs.ComparisonLaws.{at_most_not_below}
 use Rattle.doubles.proofs.SumOrderLaws.{at_least_zero_finite, add_at_least_zero, add_in_order}
 use Rattle.profile.specs.Tolerances.{t_max}
@@ -37,7 +37,7 @@ part_up_to t a =
       finite = i;
       less = l;
       most = side (val t) (val t_max) l
-          (not-lt→atmost binary64 t_max t t_max_fits a.fits t_max_finite i (no (t_max <ᶠ t) a.within));
+          (not_lt→atmost binary64 t_max t t_max_fits a.fits t_max_finite i (no (t_max <ᶠ t) a.within));
     }
   where
     no : (b : Bool) → b ≡ false → T (not b)

@@ -26,7 +26,8 @@ use Rattle.get_profile.specs.GetProfile.{get_profile_answer}
 use Rattle.get_profile.specs.Answered.{AcceptedFor}
 use Rattle.get_profile.proofs.AnswerLaws.{answered, answered_after}
 use Rattle.profile.specs.Tolerances.{t_max}
-use Rattle.planner.specs.Answers.{finite_start, finite_target, finite_limits, finite_move, wrong_duration, input_of, answer_of, Admitted}
+use Rattle.planner.specs.Answers.{finite_start, finite_target, finite_limits, finite_move, wrong_duration, input_of}
+use Rattle.planner.specs.Answers.{answer_of, Admitted}
 use Rattle.planner.specs.Promise.{Arrives, Promise, FiniteDuration, OfMove, CheckedFor}
 use Rattle.planner.specs.Arrival.{axis_of_plan, Joinable}
 use Rattle.planner.specs.declared.Move.{Move}

@@ -8,7 +8,8 @@ use Rattle.block.specs.Blocks.{empty_block, refused}
 use Rattle.block.specs.declared.Answer.{Answer}
 use Rattle.get_profile.specs.GetProfile.{get_profile_answer, NoneAccepted, EachRefused, FourStay}
 use Rattle.get_profile.proofs.AnswerLaws.{answered}
-use Rattle.get_profile.proofs.RefusalLaws.{refused_4 as answered-4, refused_4_each as answered-4-each, refused_5 as answered-5}
+use Rattle.get_profile.proofs.RefusalLaws.{refused_4 as answered-4, refused_4_each as answered-4-each}
+use Rattle.get_profile.proofs.RefusalLaws.{refused_5 as answered-5}
 use Rattle.planner.specs.Answers.{finite_move, wrong_sign, wrong_duration, input_of, answer_of, Admitted, Tried}
 use Rattle.planner.specs.declared.Move.{Move}
 

@@ -3,7 +3,8 @@
 #![tactic(auto)]
 
 ghost use Rattle.std.specs.Prelude.{◌≡◌};
-ghost use Rattle.planner.specs.Answers.{finite_start, finite_target, finite_limits, finite_move, wrong_sign, wrong_duration, input_of, answer_of};
+ghost use Rattle.planner.specs.Answers.{finite_start, finite_target, finite_limits, finite_move, wrong_sign};
+ghost use Rattle.planner.specs.Answers.{wrong_duration, input_of, answer_of};
 ghost use Rattle.planner.specs.Promise.{Promise, FiniteDuration};
 ghost use Rattle.planner.specs.Arrival.{Joinable};
 

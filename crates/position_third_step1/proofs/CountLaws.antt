@@ -9,7 +9,8 @@ use Rattle.doubles.specs.Constants.{0ᶠ}
 use Rattle.profile.specs.declared.Start.{Start}
 use Rattle.profile.specs.declared.Target.{Target}
 use Rattle.profile.specs.declared.Limits.{Limits}
-use Rattle.phase_times.specs.TimeAllSingleStep.{changes_acceleration, starts_accelerated, starts_moving, starts_at_target}
+use Rattle.phase_times.specs.TimeAllSingleStep.{changes_acceleration, starts_accelerated, starts_moving}
+use Rattle.phase_times.specs.TimeAllSingleStep.{starts_at_target}
 use Rattle.phase_times.specs.TimeAllSingleStep.{times_at_constant_speed, zero_times}
 use Rattle.phase_times.specs.declared.constants.Constants.{Constants}
 use Rattle.position_third_step1.specs.Slots.{Slot, always}

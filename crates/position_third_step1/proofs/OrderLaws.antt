@@ -12,7 +12,8 @@ use Rattle.profile.specs.declared.Target.{Target}
 use Rattle.profile.specs.declared.Limits.{Limits}
 use Rattle.profile.specs.declared.ReachedLimits.{ReachedLimits}
 use Rattle.profile.specs.declared.ReachedLimits.TheVariants.{Vel, Acc0, Acc1, Acc0Acc1, Acc1Vel, None}
-use Rattle.phase_times.specs.TimeAllVel.{t_acc1_radicand, times_acc0_acc1_vel, times_acc1_vel, times_acc0_vel, times_vel}
+use Rattle.phase_times.specs.TimeAllVel.{t_acc1_radicand, times_acc0_acc1_vel, times_acc1_vel, times_acc0_vel}
+use Rattle.phase_times.specs.TimeAllVel.{times_vel}
 use Rattle.phase_times.specs.TimeAcc0Acc1.{admits_acc0_acc1_solution2, admits_acc0_acc1_solution1}
 use Rattle.phase_times.specs.TimeAcc0Acc1.{times_acc0_acc1_solution2, times_acc0_acc1_solution1}
 use Rattle.phase_times.specs.TimeAllSingleStep.{has_phase3, times_single_step_solution1, times_single_step_solution2}

@@ -27,7 +27,14 @@ tries return-after-found c xs = in_turn added return-after-found c xs
 
 -- a try of a family: the jerk is the limits'
 abbrev pub try_of : Start → Target → Limits → ReachedLimits → List Float → Try
-try_of start target m reached t = record { start = start; target = target; t = t; reached = reached; jf = m.j_max; limits = m }
+try_of start target m reached t = record {
+  start = start;
+  target = target;
+  t = t;
+  reached = reached;
+  jf = m.j_max;
+  limits = m;
+}
 
 -- what every try of a family shares
 pub record TryWith (start : Start) (target : Target) (jf : Float) (m : Limits) (x : Try) : Type 0 where

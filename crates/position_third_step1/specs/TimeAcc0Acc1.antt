@@ -7,7 +7,9 @@ use Rattle.profile.specs.declared.Start.{Start}
 use Rattle.profile.specs.declared.Target.{Target}
 use Rattle.profile.specs.declared.Limits.{Limits}
 use Rattle.profile.specs.declared.ReachedLimits.TheVariants.{Acc0Acc1}
-use Rattle.phase_times.specs.TimeAcc0Acc1.{acc0_acc1_radicand, acc0_acc1_h1, acc0_acc1_h2, acc0_acc1_h3, admits_acc0_acc1_solution2, admits_acc0_acc1_solution1, times_acc0_acc1_solution2, times_acc0_acc1_solution1}
+use Rattle.phase_times.specs.TimeAcc0Acc1.{acc0_acc1_radicand, acc0_acc1_h1, acc0_acc1_h2, acc0_acc1_h3}
+use Rattle.phase_times.specs.TimeAcc0Acc1.{admits_acc0_acc1_solution2, admits_acc0_acc1_solution1}
+use Rattle.phase_times.specs.TimeAcc0Acc1.{times_acc0_acc1_solution2, times_acc0_acc1_solution1}
 use Rattle.phase_times.specs.declared.constants.Constants.{Constants}
 use Rattle.candidates.specs.declared.Try.{Try}
 use Rattle.candidates.specs.declared.Candidates.{Candidates}

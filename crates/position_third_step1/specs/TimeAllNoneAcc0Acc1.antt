@@ -11,7 +11,8 @@ use Rattle.phase_times.specs.declared.constants.Constants.{Constants}
 use Rattle.phase_times_quartic.specs.Quartic.{shifted_quartic, has_solution}
 use Rattle.phase_times_quartic.specs.RootRange.{is_skipped}
 use Rattle.phase_times_quartic.specs.TimeNone.{h2_none, polynom_none, range_none, corrected_none, times_none}
-use Rattle.phase_times_quartic.specs.TimeAcc0.{h0_acc0, h2_acc0, h3_acc0, polynom_acc0, range_acc0, corrected_acc0, times_acc0}
+use Rattle.phase_times_quartic.specs.TimeAcc0.{h0_acc0, h2_acc0, h3_acc0, polynom_acc0, range_acc0, corrected_acc0}
+use Rattle.phase_times_quartic.specs.TimeAcc0.{times_acc0}
 use Rattle.phase_times_quartic.specs.TimeAcc1.{h0_acc1, h2_acc1, h3_acc1, polynom_acc1, range_acc1, times_acc1}
 use Rattle.phase_times_quartic.specs.CorrectionAcc1.{corrected_acc1}
 use Rattle.phase_times_quartic.specs.declared.quartic.Quartic.{Quartic}

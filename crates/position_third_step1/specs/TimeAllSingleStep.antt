@@ -8,7 +8,8 @@ use Rattle.profile.specs.declared.Start.{Start}
 use Rattle.profile.specs.declared.Target.{Target}
 use Rattle.profile.specs.declared.Limits.{Limits}
 use Rattle.profile.specs.declared.ReachedLimits.TheVariants.{None}
-use Rattle.phase_times.specs.TimeAllSingleStep.{changes_acceleration, starts_accelerated, starts_moving, starts_at_target}
+use Rattle.phase_times.specs.TimeAllSingleStep.{changes_acceleration, starts_accelerated, starts_moving}
+use Rattle.phase_times.specs.TimeAllSingleStep.{starts_at_target}
 use Rattle.phase_times.specs.TimeAllSingleStep.{has_phase3, single_step_radicand, times_single_step_solution1}
 use Rattle.phase_times.specs.TimeAllSingleStep.{times_single_step_solution2, times_at_constant_speed, zero_times}
 use Rattle.phase_times.specs.declared.constants.Constants.{Constants}

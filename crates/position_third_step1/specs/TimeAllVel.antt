@@ -6,7 +6,8 @@ use Rattle.profile.specs.declared.Start.{Start}
 use Rattle.profile.specs.declared.Target.{Target}
 use Rattle.profile.specs.declared.Limits.{Limits}
 use Rattle.profile.specs.declared.ReachedLimits.TheVariants.{Vel}
-use Rattle.phase_times.specs.TimeAllVel.{t_acc0_radicand, t_acc1_radicand, times_acc0_acc1_vel, times_acc1_vel, times_acc0_vel, times_vel}
+use Rattle.phase_times.specs.TimeAllVel.{t_acc0_radicand, t_acc1_radicand, times_acc0_acc1_vel, times_acc1_vel}
+use Rattle.phase_times.specs.TimeAllVel.{times_acc0_vel, times_vel}
 use Rattle.phase_times.specs.declared.constants.Constants.{Constants}
 use Rattle.candidates.specs.declared.Try.{Try}
 use Rattle.candidates.specs.declared.Candidates.{Candidates}

@@ -9,9 +9,12 @@ use Rattle.profile.specs.declared.Limits.{Limits}
 use Rattle.profile.specs.declared.ReachedLimits.TheVariants.{Vel, Acc0, Acc1Vel, None}
 use Rattle.phase_times_two_step.specs.ScaledRoot.{scaled_root}
 use Rattle.phase_times_two_step.specs.TimeAcc1VelTwoStep.{times_acc1_vel_two_step}
-use Rattle.phase_times_two_step.specs.TimeAcc0TwoStep.{times_acc0_two_step, times_acc0_removed_pf, acc0_removed_a_max_h0, acc0_removed_a_max_radicand, times_acc0_removed_a_max, times_acc0_to_a_min}
+use Rattle.phase_times_two_step.specs.TimeAcc0TwoStep.{times_acc0_two_step, times_acc0_removed_pf}
+use Rattle.phase_times_two_step.specs.TimeAcc0TwoStep.{acc0_removed_a_max_h0, acc0_removed_a_max_radicand}
+use Rattle.phase_times_two_step.specs.TimeAcc0TwoStep.{times_acc0_removed_a_max, times_acc0_to_a_min}
 use Rattle.phase_times_two_step.specs.TimeVelTwoStep.{times_vel_phase0, times_vel_phase2}
-use Rattle.phase_times_two_step.specs.TimeNoneTwoStep.{none_two_step_radicand, times_none_two_step, times_none_single_step}
+use Rattle.phase_times_two_step.specs.TimeNoneTwoStep.{none_two_step_radicand, times_none_two_step}
+use Rattle.phase_times_two_step.specs.TimeNoneTwoStep.{times_none_single_step}
 use Rattle.phase_times.specs.declared.constants.Constants.{Constants}
 use Rattle.candidates.specs.declared.Try.{Try}
 use Rattle.candidates.specs.declared.Candidates.{Candidates}

@@ -1,8 +1,8 @@
 -- What the machine holds as a Profile: each array has its length, and every number is a double. Assumes nothing.
 use Prim.Native.Nat.{ℕ, zero, suc}
-use mathlib.Core.Path.{◌≡◌}
-use mathlib.Core.List.{List, [], ◌∷◌}
-use lib.ListN.{length, get_or}
+use mathlib.Core.Path.{◌≡◌, sym, subst, ◌∙◌}
+use mathlib.Core.List.{List, [], ◌∷◌, map, map-id}
+use lib.ListN.{length, get_or, length-map}
 use lib.Dec.{T}
 use lib.Ieee.{Float, Format, binary64, nan, fits}
 use mir.Val.{Val}
@@ -21,6 +21,15 @@ each_fits f [] us i p = tt
 each_fits f (x ∷ xs) [] i p = absurd p
 each_fits f (x ∷ xs) (u ∷ us) zero p = passes _ p.0.1
 each_fits f (x ∷ xs) (u ∷ us) (suc i) p = each_fits f xs us i p.1
+
+-- the same where the relation stands at `map` of the identity
+pub field_fits : (f : Format) (xs : List Float) (us : List Val) (i : ℕ)
+    → shadow (each Float (FloatOf f).own_val (map (λ (v : Float). v) xs) us) → T (fits f (get_or xs i nan))
+field_fits f xs us i p =
+    each_fits f xs us i (subst (λ (ys : List Float). shadow (each Float (FloatOf f).own_val ys us)) (map-id xs) p)
+
+pub field_length : (xs : List Float) (n : ℕ) → length (map (λ (v : Float). v) xs) ≡ n → length xs ≡ n
+field_length xs n e = sym (length-map xs (λ (v : Float). v)) ∙ e
 
 -- ---- a profile
 abbrev Double : Float → Type 0

@@ -5,7 +5,8 @@ use Rattle.profile.specs.declared.Direction.TheVariants.{UP, DOWN}
 use Rattle.profile.specs.declared.ControlSigns.{ControlSigns}
 use Rattle.profile.specs.declared.ControlSigns.TheVariants.{UDDU, UDUD}
 use Rattle.profile.specs.declared.ReachedLimits.{ReachedLimits}
-use Rattle.profile.specs.declared.ReachedLimits.TheVariants.{Acc0Acc1Vel, Vel, Acc0, Acc1, Acc0Acc1, Acc0Vel, Acc1Vel, None}
+use Rattle.profile.specs.declared.ReachedLimits.TheVariants.{Acc0Acc1Vel, Vel, Acc0, Acc1, Acc0Acc1, Acc0Vel, Acc1Vel}
+use Rattle.profile.specs.declared.ReachedLimits.TheVariants.{None}
 
 -- the name ends in Vel
 abbrev pub ends_in_vel : ReachedLimits → Bool

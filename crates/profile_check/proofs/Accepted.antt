@@ -17,7 +17,9 @@ use Rattle.profile.specs.Limits.{bounds_of}
 use Rattle.profile.specs.Boundary.{start_of, target_of}
 use Rattle.profile_rows.specs.Rows.{jerks, stored_if, outer_row, middle_row, rows_of}
 use Rattle.profile_check.specs.Accepted.{Accepted, SameBoundary}
-use Rattle.profile_check.specs.Check.{each, times_pass, phases_pass, sum_passes, zero_passes, zeros_pass, end_passes, a_within, v_within, a_rows_pass, v_rows_pass, rows_pass, accepted, filled, checked}
+use Rattle.profile_check.specs.Check.{each, times_pass, phases_pass, sum_passes, zero_passes, zeros_pass, end_passes}
+use Rattle.profile_check.specs.Check.{a_within, v_within, a_rows_pass, v_rows_pass, rows_pass, accepted, filled}
+use Rattle.profile_check.specs.Check.{checked}
 use Rattle.profile.specs.declared.Profile.{Profile}
 use Rattle.profile.specs.declared.Limits.{Limits}
 use Rattle.profile_check.specs.declared.Checked.{Checked}

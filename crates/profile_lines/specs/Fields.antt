@@ -8,7 +8,8 @@ use Rattle.profile.specs.declared.Profile.{Profile}
 use Rattle.profile.specs.declared.Direction.{Direction}
 use Rattle.profile.specs.declared.Direction.TheVariants.{UP, DOWN}
 use Rattle.profile.specs.declared.ReachedLimits.{ReachedLimits}
-use Rattle.profile.specs.declared.ReachedLimits.TheVariants.{Acc0Acc1Vel, Vel, Acc0, Acc1, Acc0Acc1, Acc0Vel, Acc1Vel, None}
+use Rattle.profile.specs.declared.ReachedLimits.TheVariants.{Acc0Acc1Vel, Vel, Acc0, Acc1, Acc0Acc1, Acc0Vel, Acc1Vel}
+use Rattle.profile.specs.declared.ReachedLimits.TheVariants.{None}
 use Rattle.profile.specs.declared.ControlSigns.{ControlSigns}
 use Rattle.profile.specs.declared.ControlSigns.TheVariants.{UDDU, UDUD}
 use Rattle.profile_lines.specs.Text.{ascii}

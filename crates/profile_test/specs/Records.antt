@@ -10,7 +10,8 @@ use Rattle.profile.specs.declared.Start.{Start}
 use Rattle.profile.specs.declared.Target.{Target}
 use Rattle.profile.specs.declared.Limits.{Limits}
 use Rattle.profile.specs.declared.ReachedLimits.{ReachedLimits}
-use Rattle.profile.specs.declared.ReachedLimits.TheVariants.{Acc0Acc1Vel, Vel, Acc0, Acc1, Acc0Acc1, Acc0Vel, Acc1Vel, None}
+use Rattle.profile.specs.declared.ReachedLimits.TheVariants.{Acc0Acc1Vel, Vel, Acc0, Acc1, Acc0Acc1, Acc0Vel, Acc1Vel}
+use Rattle.profile.specs.declared.ReachedLimits.TheVariants.{None}
 use Rattle.profile.specs.declared.ControlSigns.{ControlSigns}
 use Rattle.profile.specs.declared.ControlSigns.TheVariants.{UDDU, UDUD}
 use Rattle.profile_check.specs.Check.{checked}
@@ -48,7 +49,13 @@ profile_of b =
 -- a check reads no j_max
 unfoldable pub bounds_of : List ℕ → Limits
 bounds_of b =
-    record { v_max = double_at b 112; v_min = double_at b 120; a_max = double_at b 128; a_min = double_at b 136; j_max = 0ᶠ }
+    record {
+      v_max = double_at b 112;
+      v_min = double_at b 120;
+      a_max = double_at b 128;
+      a_min = double_at b 136;
+      j_max = 0ᶠ;
+    }
 
 -- what `check` answers
 unfoldable pub checked_of : List ℕ → Checked

@@ -1,7 +1,8 @@
 // What the bytes of a record mean.
 
 ghost use Rattle.std.specs.Prelude.{◌≡◌};
-ghost use Rattle.profile_test.specs.Records.{limits_of, control_signs_of, start_of, target_of, profile_of, bounds_of, checked_of};
+ghost use Rattle.profile_test.specs.Records.{limits_of, control_signs_of, start_of, target_of, profile_of, bounds_of};
+ghost use Rattle.profile_test.specs.Records.{checked_of};
 
 use encoding::{byte_at, double_at};
 use profile::{ControlSigns, Limits, Profile, ReachedLimits, Start, Target};

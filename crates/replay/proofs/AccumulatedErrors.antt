@@ -9,7 +9,8 @@ use Rattle.doubles.specs.Value.{Finite}
 use Rattle.doubles.proofs.SignedLaws.{near_refl}
 use Rattle.profile_rows.specs.declared.Row.{Row}
 use Rattle.replay.proofs.ExactMotion.{Phase, Stateˢ, next_row, next_state, row_state, time, size_a, size_v, size_p}
-use Rattle.replay.proofs.ExactMotion.{underflow_a, underflow_v, underflow_p, sum_to, time_to, state_at, error_a, error_v}
+use Rattle.replay.proofs.ExactMotion.{underflow_a, underflow_v, underflow_p, sum_to, time_to, state_at, error_a}
+use Rattle.replay.proofs.ExactMotion.{error_v}
 use Rattle.replay.proofs.ExactMotion.{error_p}
 use Rattle.replay.proofs.PhaseErrors.{MotionError, PositionError, PhaseFits, RowFits, MotionFinite, PhaseFinite}
 use Rattle.replay.proofs.PhaseErrors.{next_fits, before_finite, position_before_finite, motion_step}

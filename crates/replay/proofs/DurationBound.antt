@@ -14,7 +14,7 @@ use Rattle.doubles.specs.Signed.{Signed, ◌⊕◌, ◌⊙◌, Near, size, AtMos
 use Rattle.doubles.specs.Value.{val, Fits, Finite, NotNegative}
 use Rattle.doubles.specs.Error.{W}
 use Rattle.doubles.proofs.OperationLaws.{add_finite}
-use Rattle.doubles.proofs.OrderLaws.{not-lt→atmost}
+use Rattle.doubles.proofs.OrderLaws.{not_lt→atmost}
 use Rattle.doubles.proofs.SumLaws.{add_not_negative, bounded_finite, not_negative_less, less_not_negative}
 use Rattle.doubles.proofs.DoubleLaws.{add64}
 use Rattle.profile_rows.specs.Rows.{sums}
@@ -89,7 +89,7 @@ module _ (t : ℕ → Float) (N : ℕ) (a : (i : ℕ) → i < suc N → Time (t 
       let l = le_refl (suc N) in
       let u = sum_not_negative N l in
       let is = bounded_finite binary64 s longest u i n in
-      let m = not-lt→atmost binary64 longest s f (sum_fits N l) i is n in
+      let m = not_lt→atmost binary64 longest s f (sum_fits N l) i is n in
       le_trans (sum_bound N l is) (mul-le-mul_left (2 ^ N)
       (chain (val s) (val longest) (val most) (not_negative_less binary64 s u is) m c))
     where

@@ -53,11 +53,11 @@ moved h s =
       z = s.z ⊕ time h ⊙ jerk h;
     }
 
-abbrev pub setIfˢ : Bool → Float → Stateˢ → Stateˢ
-setIfˢ b a s = record { x = s.x; y = s.y; z = cond b (U ⊙ val a) s.z }
+abbrev pub set_ifˢ : Bool → Float → Stateˢ → Stateˢ
+set_ifˢ b a s = record { x = s.x; y = s.y; z = cond b (U ⊙ val a) s.z }
 
 abbrev pub next_state : Phase → Stateˢ → Stateˢ
-next_state h s = setIfˢ h.sets h.a (moved h s)
+next_state h s = set_ifˢ h.sets h.a (moved h s)
 
 -- ---- a phase's part of Sa, Sv, Sp
 abbrev pub size_a : Row → Phase → ℕ

@@ -21,7 +21,7 @@ use Rattle.profile.specs.declared.Profile.{Profile}
 use Rattle.profile_check.specs.Accepted.{row_at}
 use Rattle.replay.specs.Replay.{U, State, at_start, phase, zeroed_if, replaced_if, 1e50ᶠ, replayed}
 use Rattle.replay.specs.Allowance.{T, Sa, Sv, Sp}
-use Rattle.replay.proofs.ExactMotion.{Phase, Stateˢ, row_state, time, jerk, moved, setIfˢ, state_at, sum_to, time_to}
+use Rattle.replay.proofs.ExactMotion.{Phase, Stateˢ, row_state, time, jerk, moved, set_ifˢ, state_at, sum_to, time_to}
 use Rattle.replay.proofs.ExactMotion.{sum_a, sum_v, sum_p}
 use Rattle.replay.proofs.PhaseErrors.{zero_is}
 
@@ -96,7 +96,7 @@ module _ (h : Phase) (n : (val h.t).less ≡ 0) (s : State) (u : Stateˢ) (o : S
 module _ (s : State) (u : Stateˢ) (o : SameState s u) where
   -- first zeroed, then replaced
   same_set : (taken zeroed : Bool) (a : Float)
-      → SameState (replaced_if taken a (zeroed_if zeroed s)) (setIfˢ (taken || zeroed) (cond taken a 0ᶠ) u)
+      → SameState (replaced_if taken a (zeroed_if zeroed s)) (set_ifˢ (taken || zeroed) (cond taken a 0ᶠ) u)
   unfolding replaced_if zeroed_if
   same_set true zeroed a = record { x = o.x; y = o.y; z = same_times U (exact a) (val a) (exact_same a) }
   same_set false true a = record { x = o.x; y = o.y; z = rw (zero_is, zero_value binary64 false) (omega arith) }

@@ -19,7 +19,8 @@ use Rattle.profile.specs.Limits.{direction_of, bounds_of}
 use Rattle.profile.specs.Boundary.{start_of, target_of, with_boundary, empty_profile}
 use Rattle.profile.specs.With.{with_phases, with_rows, with_names}
 use Rattle.profile_rows.specs.Rows.{sums, jerk_if, jerks, row_after, stored_if, outer_row, middle_row, rows_of}
-use Rattle.profile_check.specs.Check.{times_pass, phases_pass, sum_passes, zero_passes, zeros_pass, end_passes, rows_pass}
+use Rattle.profile_check.specs.Check.{times_pass, phases_pass, sum_passes, zero_passes, zeros_pass, end_passes}
+use Rattle.profile_check.specs.Check.{rows_pass}
 use Rattle.profile_check.specs.Check.{accepted, filled, checked}
 use Rattle.profile.specs.declared.Profile.{Profile}
 use Rattle.profile.specs.declared.Start.{Start}

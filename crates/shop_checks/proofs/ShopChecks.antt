@@ -10,7 +10,8 @@ use Rattle.profile.specs.With.{with_phases}
 use Rattle.profile.specs.Limits.{swapped_limits, direction_of, bounds_of}
 use Rattle.profile_lines.specs.Fields.{hex, double_fields}
 use Rattle.profile_rows.specs.Rows.{sums, jerk_if, jerks, row_after, stored_if, outer_row, middle_row, rows_of}
-use Rattle.profile_check.specs.Check.{times_pass, phases_pass, sum_passes, zero_passes, zeros_pass, end_passes, rows_pass}
+use Rattle.profile_check.specs.Check.{times_pass, phases_pass, sum_passes, zero_passes, zeros_pass, end_passes}
+use Rattle.profile_check.specs.Check.{rows_pass}
 use Rattle.profile_check.specs.Check.{accepted, filled, checked}
 use Rattle.elementary.specs.Functions.{sqrt_of, cbrt_of, third_angle_cosine_of, third_angle_sine_of}
 use Rattle.roots.specs.List.{inserted, placed, sorted_from, ascending_of}
@@ -21,7 +22,8 @@ use Rattle.candidates.specs.List.{stored, added, fresh_list}
 use Rattle.candidates.specs.Try.{passes, profile_of}
 use Rattle.phase_times.specs.Constants.{constants_of}
 use Rattle.search.specs.Choices.{has_zero_limit, ends_at_rest, points_up, rests_at_target, towards_target}
-use Rattle.phase_times.specs.TimeAllSingleStep.{changes_acceleration, starts_accelerated, starts_moving, starts_at_target}
+use Rattle.phase_times.specs.TimeAllSingleStep.{changes_acceleration, starts_accelerated, starts_moving}
+use Rattle.phase_times.specs.TimeAllSingleStep.{starts_at_target}
 use Rattle.phase_times.specs.TimeAllSingleStep.{times_at_constant_speed}
 use Rattle.phase_times.specs.TimeAllVel.{t3_acc0_acc1_vel, times_acc0_acc1_vel}
 use Rattle.phase_times_quartic.specs.CorrectionAcc1.{corrected_acc1}
@@ -30,9 +32,11 @@ use Rattle.phase_times_quartic.specs.RootRange.{is_skipped}
 use Rattle.phase_times_quartic.specs.TimeAcc0.{h0_acc0, h3_acc0, h2_acc0, range_acc0, polynom_acc0, newton_acc0}
 use Rattle.phase_times_quartic.specs.TimeAcc0.{corrected_acc0, times_acc0}
 use Rattle.phase_times_quartic.specs.TimeAcc1.{h0_acc1, h3_acc1, h2_acc1, polynom_acc1, range_acc1, times_acc1}
-use Rattle.phase_times_quartic.specs.TimeNone.{h2_none, polynom_none, newton_none, corrected_none, range_none, times_none}
+use Rattle.phase_times_quartic.specs.TimeNone.{h2_none, polynom_none, newton_none, corrected_none, range_none}
+use Rattle.phase_times_quartic.specs.TimeNone.{times_none}
 use Rattle.phase_times_two_step.specs.ScaledRoot.{scaled_root}
-use Rattle.phase_times_two_step.specs.TimeNoneTwoStep.{none_two_step_radicand, times_none_two_step, times_none_single_step}
+use Rattle.phase_times_two_step.specs.TimeNoneTwoStep.{none_two_step_radicand, times_none_two_step}
+use Rattle.phase_times_two_step.specs.TimeNoneTwoStep.{times_none_single_step}
 use Rattle.position_third_step1.specs.CheckTree.{only_if}
 use Rattle.position_third_step1.specs.Slots.{always, held, numbers}
 use Rattle.position_third_step1.specs.TimeAllNoneAcc0Acc1.{roots_if, none_shared, acc0_shared, acc1_shared, root_slots}
@@ -41,7 +45,8 @@ use Rattle.position_third_step1.specs.TimeAllNoneAcc0Acc1.{none_tries, acc0_trie
 use Rattle.position_third_step1.specs.TimeAllSingleStep.{single_step_slots, single_step_tries, acceptance}
 use Rattle.position_third_step1.specs.TimeAllVel.{all_vel_slots, all_vel_tries}
 use Rattle.position_third_step1.specs.TwoStep.{none_two_step_shared, none_two_step_slots, none_two_step_tries}
-use Rattle.block.specs.Blocks.{total, duration, no_interval, interval_from, interval_between, block_of, empty_block, planned}
+use Rattle.block.specs.Blocks.{total, duration, no_interval, interval_from, interval_between, block_of, empty_block}
+use Rattle.block.specs.Blocks.{planned}
 use Rattle.block.specs.Blocks.{refused, is_blocked, blocking_of}
 use Rattle.block.specs.Selection.{near, of_two, selected}
 use Rattle.get_profile.specs.Families.{unless_found, first_of}
@@ -88,7 +93,7 @@ shop_checks =
       line_3 = by_move 3 move_3 refl refl;
       line_4 = by_move 4 move_4 refl refl;
       line_2_down = by_move 2 move_2_down refl refl;
-      move-3-at-2½ = refl;
+      move_3_at_2½ = refl;
       move_3_at_3 = refl;
       move_3_at_4 = refl;
       sqrt_9 = refl;

@@ -32,7 +32,8 @@ use Rattle.doubles.specs.Functions.{absᶠ, minᶠ, maxᶠ}
 use Rattle.profile.specs.Boundary.{with_boundary, empty_profile}
 use Rattle.profile.specs.Limits.{swapped_limits, direction_of, bounds_of}
 use Rattle.profile_rows.specs.Rows.{sums, jerk_if, jerks, row_after, stored_if, outer_row, middle_row, rows_of}
-use Rattle.profile_check.specs.Check.{times_pass, phases_pass, sum_passes, zero_passes, zeros_pass, end_passes, rows_pass}
+use Rattle.profile_check.specs.Check.{times_pass, phases_pass, sum_passes, zero_passes, zeros_pass, end_passes}
+use Rattle.profile_check.specs.Check.{rows_pass}
 use Rattle.profile_check.specs.Check.{accepted, filled}
 use Rattle.elementary.specs.Functions.{sqrt_of, cbrt_of, third_angle_cosine_of, third_angle_sine_of}
 use Rattle.roots.specs.Quartic.{with_quadratic, larger, largest_zero, factors_of, roots_by_factors, quartic_of}
@@ -43,18 +44,22 @@ use Rattle.candidates.specs.List.{stored, added, fresh_list}
 use Rattle.phase_times.specs.Constants.{constants_of}
 use Rattle.search.specs.Choices.{has_zero_limit, ends_at_rest}
 use Rattle.phase_times.specs.TimeAcc0Acc1.{acc0_acc1_radicand, acc0_acc1_h1, acc0_acc1_h2, acc0_acc1_h3}
-use Rattle.phase_times.specs.TimeAcc0Acc1.{admits_acc0_acc1_solution2, admits_acc0_acc1_solution1, times_acc0_acc1_solution2}
+use Rattle.phase_times.specs.TimeAcc0Acc1.{admits_acc0_acc1_solution2, admits_acc0_acc1_solution1}
+use Rattle.phase_times.specs.TimeAcc0Acc1.{times_acc0_acc1_solution2}
 use Rattle.phase_times.specs.TimeAcc0Acc1.{times_acc0_acc1_solution1}
-use Rattle.phase_times.specs.TimeAllVel.{t_acc0_radicand, t_acc1_radicand, t3_acc0_acc1_vel, times_acc0_acc1_vel, times_acc1_vel}
+use Rattle.phase_times.specs.TimeAllVel.{t_acc0_radicand, t_acc1_radicand, t3_acc0_acc1_vel, times_acc0_acc1_vel}
+use Rattle.phase_times.specs.TimeAllVel.{times_acc1_vel}
 use Rattle.phase_times.specs.TimeAllVel.{times_acc0_vel, times_vel}
-use Rattle.phase_times_quartic.specs.CorrectionAcc1.{orig_acc1, deriv_acc1, first_correction_acc1, third_correction_acc1}
+use Rattle.phase_times_quartic.specs.CorrectionAcc1.{orig_acc1, deriv_acc1, first_correction_acc1}
+use Rattle.phase_times_quartic.specs.CorrectionAcc1.{third_correction_acc1}
 use Rattle.phase_times_quartic.specs.CorrectionAcc1.{second_correction_acc1, corrected_acc1}
 use Rattle.phase_times_quartic.specs.Quartic.{shifted_quartic, has_solution}
 use Rattle.phase_times_quartic.specs.RootRange.{is_skipped}
 use Rattle.phase_times_quartic.specs.TimeAcc0.{h0_acc0, h3_acc0, h2_acc0, range_acc0, polynom_acc0, newton_acc0}
 use Rattle.phase_times_quartic.specs.TimeAcc0.{corrected_acc0, times_acc0}
 use Rattle.phase_times_quartic.specs.TimeAcc1.{h0_acc1, h3_acc1, h2_acc1, polynom_acc1, range_acc1, times_acc1}
-use Rattle.phase_times_quartic.specs.TimeNone.{h2_none, polynom_none, newton_none, corrected_none, range_none, times_none}
+use Rattle.phase_times_quartic.specs.TimeNone.{h2_none, polynom_none, newton_none, corrected_none, range_none}
+use Rattle.phase_times_quartic.specs.TimeNone.{times_none}
 use Rattle.block.specs.Blocks.{total, refused}
 use Rattle.block.specs.Selection.{near, alike, alike_removal, removal, of_four, selected}
 use Rattle.get_profile.specs.Families.{each_of}

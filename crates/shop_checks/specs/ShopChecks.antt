@@ -91,7 +91,7 @@ pub record ShopChecks : Type 0 where
   -- ● pf -4 for 4: 6 s, DOWN, Vel
   pub line_2_down : reply_of line_of 2 (record_of (record_bytes move_2_down)) ≡ ascii "2 ok 4018000000000000 DOWN Vel 0\n"
   -- ● move 3: 2.5 blocked, 3 free, 4 blocked
-  pub move-3-at-2½ : blocking_of (answer_of move_3).block 2½ᶠ ≡ Blocked
+  pub move_3_at_2½ : blocking_of (answer_of move_3).block 2½ᶠ ≡ Blocked
   pub move_3_at_3 : blocking_of (answer_of move_3).block 3ᶠ ≡ Free
   pub move_3_at_4 : blocking_of (answer_of move_3).block 4ᶠ ≡ Blocked
   -- ● √9 = 3, √-1 NaN

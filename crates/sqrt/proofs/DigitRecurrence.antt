@@ -1,6 +1,7 @@
 -- One digit of a square root: with v = (q² + r) * 2 ^ 64 + l and r at most 2q, the root of 4v
 -- has the digits of q and one more. Assumes nothing.
-use Rattle.std.proofs.Common.{◌≡◌, ℕ, ◌+◌, ◌-◌, ◌*◌, ◌/◌, ◌%◌, ◌^◌, ◌<◌, ◌≤◌, ap, ◌∙◌, subst, lt_of_lt_of_le, mul_left_comm, add-one, arith, pow_mono}
+use Rattle.std.proofs.Common.{◌≡◌, ℕ, ◌+◌, ◌-◌, ◌*◌, ◌/◌, ◌%◌, ◌^◌, ◌<◌, ◌≤◌, ap, ◌∙◌, subst, lt_of_lt_of_le}
+use Rattle.std.proofs.Common.{mul_left_comm, add-one, arith, pow_mono}
 use native.Mathlib.Nat.{pow-succ'}
 
 -- the state after i digits of the root of m / 2 ^ 54

@@ -1,5 +1,6 @@
 -- The excess m * 2 ^ 52 - r² + r reckoned modulo 2 ^ 64, and the verdict by it. Assumes nothing.
-use Rattle.std.proofs.Common.{◌≡◌, ℕ, ◌+◌, ◌-◌, ◌*◌, ◌/◌, ◌%◌, ◌^◌, ◌<◌, ◌≤◌, ◌⊎◌, sym, ap, ◌∙◌, inl, inr, le_trans, mul-le-mul_right, mul-le-mul_left, lt_of_not-le, arith}
+use Rattle.std.proofs.Common.{◌≡◌, ℕ, ◌+◌, ◌-◌, ◌*◌, ◌/◌, ◌%◌, ◌^◌, ◌<◌, ◌≤◌, ◌⊎◌, sym, ap, ◌∙◌, inl, inr, le_trans}
+use Rattle.std.proofs.Common.{mul-le-mul_right, mul-le-mul_left, lt_of_not-le, arith}
 use native.Mathlib.Decide.{dec_le}
 use Rattle.sqrt.specs.Verdicts.{verdict_of}
 use Rattle.sqrt.specs.declared.certificate.Verdict.TheVariants.{Nearest, TooLow, TooHigh, Unknown}

@@ -1,6 +1,7 @@
 -- The verdict on a candidate r by the place of a among the squares of the midpoints, and what
 -- a verdict says. Assumes nothing.
-use Rattle.std.proofs.Common.{◌≡◌, ℕ, zero, suc, ◌+◌, ◌-◌, ◌*◌, ◌<◌, ◌≤◌, Bool, true, false, cond, ◌&&◌, T, ltb, leb, sym, refl, ap, ◌∙◌, subst, ap₂, arith, ltb→lt, leb→le, le-ltb, lt-ltb, le-leb}
+use Rattle.std.proofs.Common.{◌≡◌, ℕ, zero, suc, ◌+◌, ◌-◌, ◌*◌, ◌<◌, ◌≤◌, Bool, true, false, cond, ◌&&◌, T, ltb, leb}
+use Rattle.std.proofs.Common.{sym, refl, ap, ◌∙◌, subst, ap₂, arith, ltb→lt, leb→le, le-ltb, lt-ltb, le-leb}
 use lib.Ieee.Fits.{and_l, and_r}
 use borrow.Author.Tests.{lt-leb}
 use Rattle.sqrt.specs.Roots.{NearestRoot, is_nearest_root}

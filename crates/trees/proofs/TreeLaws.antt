@@ -6,7 +6,8 @@ use mathlib.Core.List.{List, ◌∷◌, ◌++◌}
 use mathlib.Core.Logic.{◌↔◌}
 use native.Mathlib.Nat.{sub-zero, zero-sub, suc-sub-suc, add_comm, suc-add, zero-add}
 use lib.ListN.{length}
-use Rattle.trees.specs.Tree.{Tree, done, ask, run, bind, after, questions, asked, AtMost, ended, asking, AllNo, Over, StopsAtYes}
+use Rattle.trees.specs.Tree.{Tree, done, ask, run, bind, after, questions, asked, AtMost, ended, asking, AllNo, Over}
+use Rattle.trees.specs.Tree.{StopsAtYes}
 use Rattle.trees.specs.InTurn.{EachNo}
 
 module _ {Q R A : Type 0} (answer : Q → R) where

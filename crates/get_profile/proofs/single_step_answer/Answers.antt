@@ -1,18 +1,11 @@
 -- `get_profile::single_step_answer` meets its contract. Assumes nothing.
-use mathlib.Core.Path.{◌≡◌}
-use lib.ListN.{length}
 use Rattle.candidates.proofs.SlotLaws.{six_slots}
 use Rattle.get_profile.proofs.SearchLaws.{first_planned, none_planned}
-use Rattle.get_profile.proofs.single_step_answer.Goals.{Start}
 use Rattle.get_profile.proofs.single_step_answer.Goals as goal
-
--- the list that comes in has six slots
-six : (entry : Start) → length entry.args.c.valid_profiles ≡ 6
-six entry = six_slots entry.args.c _ entry.well_formed.1.0
 
 pub returns-then-c-gt0 : goal.returns-then-c-gt0
 returns-then-c-gt0 c =
-    first_planned _ _ (six c.before.before.before.before.before) c.if-c-gt0.true _
+    first_planned _ _ (six_slots c.args.c _ c.well_formed.1.0) c.if-c-gt0.true _
     c.after_passing.ensures
     c.none.ensures
     c.planned.ensures

@@ -74,7 +74,8 @@ returns-then-not-end_passes c =
 pub returns : goal.returns
 unfolding rows_pass end_passes zeros_pass
 returns c =
-    by_tests c.before.before.before.before.before
+    let rows_tested = c.before.before.before in
+    by_tests rows_tested.before.before
     (rw (
       ← c.rows_pass.ensures,
       c.if-not-rows_pass.false,

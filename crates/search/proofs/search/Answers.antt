@@ -86,7 +86,8 @@ loop-i-smaller-then-at-lt5 c =
 
 pub loop-i-preserved-then-at-lt5 : goal.loop-i-preserved-then-at-lt5
 loop-i-preserved-then-at-lt5 c =
-    success c.before.before.before.before.before.before
+    let stored = c.before.before.before in
+    success stored.before.before.before
     (added_below _ _ c.loop-i.invariant.six _ c.if-at-lt5.true c.profile_of-profile.ensures
     c.with_boundary_from_profile.ensures)
 

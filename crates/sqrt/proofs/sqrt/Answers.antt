@@ -1,5 +1,6 @@
 -- `sqrt::sqrt` meets its contract. Assumes nothing.
-use Rattle.std.proofs.Common.{◌≡◌, ℕ, ◌^◌, ◌<◌, ◌≤◌, true, not, ◌&&◌, T, ltb, leb, sym, ap, ◌∙◌, subst, lt_of_lt_of_le, arith, lit≤, ltb→lt, leb→le}
+use Rattle.std.proofs.Common.{◌≡◌, ℕ, ◌^◌, ◌<◌, ◌≤◌, true, not, ◌&&◌, T, ltb, leb, sym, ap, ◌∙◌, subst}
+use Rattle.std.proofs.Common.{lt_of_lt_of_le, arith, lit≤, ltb→lt, leb→le}
 use lib.Ieee.{Float, binary64, fits, nan_bits, of_bits, to_bits}
 use lib.Ieee.Bits.{of_bits-to_bits}
 use lib.Ieee.Fits.{add-fits, and_l, and_r}

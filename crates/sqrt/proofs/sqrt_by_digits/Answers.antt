@@ -1,5 +1,6 @@
 -- `sqrt::sqrt_by_digits` meets its contract. Assumes nothing.
-use Rattle.std.proofs.Common.{◌≡◌, ℕ, ◌+◌, ◌-◌, ◌%◌, ◌^◌, ◌<◌, ◌≤◌, true, not, T, sym, refl, ap, ◌∙◌, subst, inl, inr, eq-or-lt_of_le, arith}
+use Rattle.std.proofs.Common.{◌≡◌, ℕ, ◌+◌, ◌-◌, ◌%◌, ◌^◌, ◌<◌, ◌≤◌, true, not, T, sym, refl, ap, ◌∙◌, subst, inl, inr}
+use Rattle.std.proofs.Common.{eq-or-lt_of_le, arith}
 use lib.Ieee.{Float, nan, binary64, of_bits, to_bits, fits, is_nan, div}
 use lib.Ieee.Bits.{of_bits-to_bits}
 use Rattle.bits.specs.Fields.{pattern_units}

@@ -59,14 +59,16 @@ returns-then-excess-r-2 c =
 
 pub returns-then-wrapping_sub_u64-r : goal.returns-then-wrapping_sub_u64-r
 returns-then-wrapping_sub_u64-r c =
-    negative_high _ _ _ c.requires.1 (reckoned c.before.before.before.before.before)
+    let near = c.before.before in
+    negative_high _ _ _ c.requires.1 (reckoned near.before.before.before)
     c.wrapping_sub_u64-2.result (residue_lt _ _ c.wrapping_add_u64-excess.ensures.value)
     c.if-excess-r-2.false c.wrapping_sub_u64-2.ensures.value
     (let z : c.wrapping_sub_u64-2.result < 2 ^ 64 = omega arith in z) c.if-wrapping_sub_u64-r.true
 
 pub returns : goal.returns
 returns c =
-    none _ _ _ c.requires.1 (reckoned c.before.before.before.before.before)
+    let near = c.before.before in
+    none _ _ _ c.requires.1 (reckoned near.before.before.before)
     c.wrapping_sub_u64-2.result (residue_lt _ _ c.wrapping_add_u64-excess.ensures.value)
     c.if-excess-r-2.false c.wrapping_sub_u64-2.ensures.value
     (let z : c.wrapping_sub_u64-2.result < 2 ^ 64 = omega arith in z) c.if-wrapping_sub_u64-r.false
