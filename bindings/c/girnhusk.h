@@ -8,7 +8,7 @@
  * calls the system. A caller owes this much: a pointer is not null and is aligned for its type; with it goes the number
  * of doubles that may be read, or written, there; what is written overlaps nothing else that is handed over; the
  * machine rounds to nearest and keeps subnormal numbers, as it does unless told otherwise; and there is stack, some
- * 13 kB for girnhusk_plan.
+ * 20 kB for girnhusk_plan.
  *
  * Before relying on a plan, read docs/USING.md. In short:
  *
