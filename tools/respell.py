@@ -6,7 +6,7 @@ usage: python3 tools/respell.py [ROOT]     once, right after the kit's port.py, 
 
 `axisOf` and `same-axis` become `axis_of` and `same_axis`. Where a definition and a lemma would fall together, the lemma
 gets `_law` behind it. Types, functions of src/, exported names, strings and generated names keep their spelling; files
-called Proof.antt keep what the older kit generated, which turn_proofs.py reads.
+called Proof.antt keep what the older kit generated.
 """
 import collections
 import os

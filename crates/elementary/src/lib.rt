@@ -1,3 +1,2 @@
-#![tactic(auto)]
-
 // The elementary functions on doubles as definitions, with their theorems: no code. The routines are crates of their own.
+#![tactic(auto)]
