@@ -38,7 +38,7 @@ DECLARED_LAW = re.compile(r"^ *((?:[^\s:(){}=λ]+ +)+):(?=\s|$)", re.M)
 MODIFIERS = {"abbrev", "unfoldable", "pub"}
 DECLARED_TYPE = re.compile(r"^ *(?:pub +)?(?:record|data) +([^\s({]+)", re.M)
 DECLARED_CODE = re.compile(
-    r"""^impl\s+(?P<owner>\w+) | ^(?P<end>\})
+    r"""^impl(?:<[^>]*>)?\s+(?P<owner>\w+) | ^(?P<end>\})
     | ^\s*(?:pub\s+)?(?:extern\s+"C"\s+)?(?:fn|struct|enum|const|type|mod)\s+(?P<item>\w+)
     | ^\s+(?:pub\s+)?(?P<field>\w+)\s*(?::|,$)""",
     re.M | re.X,

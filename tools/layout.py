@@ -122,7 +122,9 @@ def defined_profile(layout, buffer, numbers):
 
 def defined_axes(axes):
     """The places of an axis's ends, and how many axes there may be."""
-    places = re.findall(r"(\w+) = at ends \(ends_length \* i(?: \+ (\d))?\)", body(axes, "axis_of"))
+    place = r"(\w+) = at ends \(ends_length \* i(?: \+ (\d))?\)"
+    stretches = re.findall(r"(\w+) = record \{(.*?)\}", body(axes, "axis_of"))
+    places = [(f"{stretch}_{end}", at) for stretch, ends in stretches for end, at in re.findall(place, ends)]
     ends = offsets("ENDS", singles(name for name, _ in sorted(places, key=lambda place: int(place[1] or 0))))
     numbers = whole_numbers(axes)
     return ends | {"ENDS_LENGTH": int(numbers["ends_length"]), "AXES_MOST": int(numbers["axes_most"])}

@@ -5,7 +5,8 @@ use native.Mathlib.Nat.{le_antisymm}
 use native.Mathlib.Omega.{arith}
 use mathlib.Core.Path.{◌≡◌, refl, sym, ap, ◌∙◌, subst}
 use mathlib.Core.Bool.{true, false, true≢false}
-use mathlib.Core.Logic.{◌↔◌}
+use mathlib.Core.Logic.{◌↔◌, inl, inr}
+use Rattle.std.specs.Prelude.{Result, Ok, Err}
 use mathlib.Core.List.{List, [], ◌∷◌}
 use borrow.Author.Tests.{ltb-true, ltb-false}
 use lib.Dec.{ltb}
@@ -23,10 +24,11 @@ use Rattle.doubles.proofs.UnsignedLaws.{abs_unsigned, abs_fits, abs_finite, abs_
 use Rattle.doubles.proofs.ComparisonLaws.{lt_eq, eq_not_lt}
 use Rattle.doubles.proofs.FunctionLaws.{holds}
 use Rattle.arrival.specs.Axes.{axis_of, missing, free, has, wrong_axis}
-use Rattle.arrival.specs.Arrivals.{arrival_number, arrival_time, arrival_axis, wrong_count, WellFormed, FreeForAll}
+use Rattle.refusals.specs.Numbers.{refusal_number, number_of}
+use Rattle.refusals.specs.declared.Refusal.{Refusal}
+use Rattle.arrival.specs.Arrivals.{arrival_time, arrival_axis, wrong_count, WellFormed, FreeForAll}
 use Rattle.arrival.specs.Arrivals.{Earliest, IsArrival, Given, SameAxes}
 use Rattle.arrival.specs.declared.answer.Arrival.{Arrival}
-use Rattle.arrival.specs.declared.answer.Arrival.TheVariants.{At, Malformed, Never}
 use Rattle.arrival.proofs.ScanLaws.{clash}
 
 -- two times of which neither is below the other
@@ -53,42 +55,50 @@ module _ (durations ends : List Float) where
       at_most : (a b : ℕ) → (a < b → ⊥) → b ≤ a
       at_most a b f = by_cases (ltb a b) (λ e. absurd (f (ltb-true a b e))) (λ e. ltb-false a b e)
 
-  pub one_answer : (r s : Arrival) → IsArrival durations ends r → IsArrival durations ends s → r ≡ s
-  one_answer (At t k) (At u l) h g =
-      let e = same_earliest_time t u k l h.1 g.1 in
-      let i = same_axis t k l h.1 (subst (λ (v : Float). Earliest durations ends v l) (sym e) g.1) in
-      λ j. At (e j) (i j)
-  one_answer (At t k) Malformed h g = absurd (g h.0)
-  one_answer (At t k) Never h g = absurd (g.1 t h.1.finite h.1.free)
-  one_answer Malformed (At u l) h g = absurd (h g.0)
-  one_answer Malformed Malformed h g = refl
-  one_answer Malformed Never h g = absurd (h g.0)
-  one_answer Never (At u l) h g = absurd (h.1 u g.1.finite g.1.free)
-  one_answer Never Malformed h g = absurd (g h.0)
-  one_answer Never Never h g = refl
+  pub one_answer : (r s : Result Arrival Refusal) → IsArrival durations ends r → IsArrival durations ends s → r ≡ s
+  one_answer (Ok x) (Ok y) h g =
+      let e = same_earliest_time x.time y.time x.axis y.axis h.1 g.1 in
+      let later = subst (λ (v : Float). Earliest durations ends v y.axis) (sym e) g.1 in
+      let i = same_axis x.time x.axis y.axis h.1 later in
+      λ j. Ok (record { time = e j; axis = i j })
+  one_answer (Ok x) (Err q) h (inl g) = absurd (g.1 h.0)
+  one_answer (Ok x) (Err q) h (inr g) = absurd (g.2 x.time h.1.finite h.1.free)
+  one_answer (Err p) (Ok y) (inl h) g = absurd (h.1 g.0)
+  one_answer (Err p) (Ok y) (inr h) g = absurd (h.2 y.time g.1.finite g.1.free)
+  one_answer (Err p) (Err q) (inl h) (inl g) = ap Err (h.0 ∙ sym g.0)
+  one_answer (Err p) (Err q) (inl h) (inr g) = absurd (h.1 g.1)
+  one_answer (Err p) (Err q) (inr h) (inl g) = absurd (g.1 h.1)
+  one_answer (Err p) (Err q) (inr h) (inr g) = ap Err (h.0 ∙ sym g.0)
 
   -- so the three numbers that a program is given are fixed
   pub one_given : {n m : ℕ} {t u : Float} {k l : ℕ} → Given durations ends n t k → Given durations ends m u l
       → (n ≡ m) × (t ≡ u) × (k ≡ l)
   one_given h g =
       let e = one_answer h.answer g.answer h.is_arrival g.is_arrival in (
-        h.number_is ∙ ap arrival_number e ∙ sym g.number_is,
+        h.number_is ∙ ap number_of e ∙ sym g.number_is,
         h.time_is ∙ ap arrival_time e ∙ sym g.time_is,
         h.axis_is ∙ ap arrival_axis e ∙ sym g.axis_is,
       )
 
   -- ---- number 9 where the slices aren't well formed, and only there; else 10 where no finite time is free for all
-  pub nine : (r : Arrival) → IsArrival durations ends r → (arrival_number r ≡ 9) ↔ (WellFormed durations ends → ⊥)
-  nine (At t k) h = (λ e. absurd (let z : ⊥ = omega arith in z), λ f. absurd (f h.0))
-  nine Malformed h = (λ e. h, λ f. refl)
-  nine Never h = (λ e. absurd (let z : ⊥ = omega arith in z), λ f. absurd (f h.0))
+  pub nine : (r : Result Arrival Refusal) → IsArrival durations ends r
+      → (number_of r ≡ 9) ↔ (WellFormed durations ends → ⊥)
+  nine (Ok x) h = (λ e. absurd (let z : ⊥ = omega arith in z), λ f. absurd (f h.0))
+  nine (Err q) (inl h) = (λ e. h.1, λ f. ap refusal_number h.0)
+  nine (Err q) (inr h) = (λ e. absurd (other e), λ f. absurd (f h.1))
+    where
+      other : refusal_number q ≡ 9 → ⊥
+      other e = let z = rw h.0 at e in omega arith
 
-  pub ten : (r : Arrival) → IsArrival durations ends r → (arrival_number r ≡ 10)
+  pub ten : (r : Result Arrival Refusal) → IsArrival durations ends r → (number_of r ≡ 10)
       ↔ (WellFormed durations ends × ((t : Float) → Finite t → FreeForAll durations ends t → ⊥))
-  ten (At t k) h =
-      (λ e. absurd (let z : ⊥ = omega arith in z), λ f. absurd (f.1 t h.1.finite h.1.free))
-  ten Malformed h = (λ e. absurd (let z : ⊥ = omega arith in z), λ f. absurd (h f.0))
-  ten Never h = (λ e. h, λ f. refl)
+  ten (Ok x) h =
+      (λ e. absurd (let z : ⊥ = omega arith in z), λ f. absurd (f.1 x.time h.1.finite h.1.free))
+  ten (Err q) (inl h) = (λ e. absurd (other e), λ f. absurd (h.1 f.0))
+    where
+      other : refusal_number q ≡ 10 → ⊥
+      other e = let z = rw h.0 at e in omega arith
+  ten (Err q) (inr h) = (λ e. (h.1, h.2), λ f. ap refusal_number h.0)
 
 -- ---- the order of the axes changes no time
 
@@ -119,23 +129,23 @@ module _ {durations ends durations' ends' : List Float} (s : SameAxes durations 
   still_free t f i l = rw (s.to_is i l) (f (s.to i l) (s.to_there i l))
 
 module _ {durations ends durations' ends' : List Float} (s : SameAxes durations ends durations' ends') where
-  pub same_answer : (q r : Arrival) → IsArrival durations ends q → IsArrival durations' ends' r
-      → (arrival_number q ≡ arrival_number r) × (arrival_time q ≡ arrival_time r)
-  same_answer (At t k) (At u l) h g = (
+  pub same_answer : (q r : Result Arrival Refusal) → IsArrival durations ends q → IsArrival durations' ends' r
+      → (number_of q ≡ number_of r) × (arrival_time q ≡ arrival_time r)
+  same_answer (Ok x) (Ok y) h g = (
     refl,
-    same_time t u h.1.double g.1.double h.1.finite g.1.finite h.1.not_minus_zero
+    same_time x.time y.time h.1.double g.1.double h.1.finite g.1.finite h.1.not_minus_zero
         g.1.not_minus_zero
-        (λ e. g.1.no_smaller t e (still_free s t h.1.free))
-        (λ e. h.1.no_smaller u e (still_free (turned s) u g.1.free)),
+        (λ e. g.1.no_smaller x.time e (still_free s x.time h.1.free))
+        (λ e. h.1.no_smaller y.time e (still_free (turned s) y.time g.1.free)),
   )
-  same_answer (At t k) Malformed h g = absurd (g (still_well_formed s h.0))
-  same_answer (At t k) Never h g = absurd (g.1 t h.1.finite (still_free s t h.1.free))
-  same_answer Malformed (At u l) h g = absurd (h (still_well_formed (turned s) g.0))
-  same_answer Malformed Malformed h g = (refl, refl)
-  same_answer Malformed Never h g = absurd (h (still_well_formed (turned s) g.0))
-  same_answer Never (At u l) h g = absurd (h.1 u g.1.finite (still_free (turned s) u g.1.free))
-  same_answer Never Malformed h g = absurd (g (still_well_formed s h.0))
-  same_answer Never Never h g = (refl, refl)
+  same_answer (Ok x) (Err q) h (inl g) = absurd (g.1 (still_well_formed s h.0))
+  same_answer (Ok x) (Err q) h (inr g) = absurd (g.2 x.time h.1.finite (still_free s x.time h.1.free))
+  same_answer (Err p) (Ok y) (inl h) g = absurd (h.1 (still_well_formed (turned s) g.0))
+  same_answer (Err p) (Ok y) (inr h) g = absurd (h.2 y.time g.1.finite (still_free (turned s) y.time g.1.free))
+  same_answer (Err p) (Err q) (inl h) (inl g) = (ap refusal_number (h.0 ∙ sym g.0), refl)
+  same_answer (Err p) (Err q) (inl h) (inr g) = absurd (h.1 (still_well_formed (turned s) g.1))
+  same_answer (Err p) (Err q) (inr h) (inl g) = absurd (g.1 (still_well_formed s h.1))
+  same_answer (Err p) (Err q) (inr h) (inr g) = (ap refusal_number (h.0 ∙ sym g.0), refl)
 
 -- ---- one axis without stretches arrives after its duration
 module _ (d a b c e : Float) (double : Fits d) (finite : Finite d) (not_negative : (d <ᶠ 0ᶠ) ≡ false)
@@ -174,10 +184,10 @@ module _ (d a b c e : Float) (double : Fits d) (finite : Finite d) (not_negative
   unfolding has axis_of
   has_duration = rw (abs_level d number not_negative).1
 
-  pub alone : (r : Arrival) → IsArrival (d ∷ []) ends r → r ≡ At (absᶠ d) 0
+  pub alone : (r : Result Arrival Refusal) → IsArrival (d ∷ []) ends r → r ≡ Ok (record { time = absᶠ d; axis = 0 })
   alone r h =
       let level = abs_level d number not_negative in
-      one_answer (d ∷ []) ends r (At (absᶠ d) 0) h (
+      one_answer (d ∷ []) ends r (Ok (record { time = absᶠ d; axis = 0 })) h (
         well_formed,
         record {
           double = abs_fits d double;

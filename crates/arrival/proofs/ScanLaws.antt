@@ -2,10 +2,12 @@
 use Prim.Native.Nat.{ℕ, zero, suc, ◌+◌, ◌-◌, ◌*◌, ◌≤◌, ◌<◌}
 use native.Mathlib.Nat.{eq-or-lt_of_le, zero-lt-suc, mul-le-mul_right}
 use native.Mathlib.Omega.{arith}
-use mathlib.Core.Path.{◌≡◌, refl, sym, ap, ◌∙◌, subst}
+use mathlib.Core.Path.{◌≡◌, refl, sym, ◌∙◌, subst}
 use mathlib.Core.Bool.{Bool, true, false, cond, not, ◌&&◌, ◌||◌, true≢false}
 use mathlib.Core.Logic.{◌⊎◌, inl, inr, ⊎_elim}
 use mathlib.Core.List.{List}
+use Rattle.std.specs.Prelude.{Some, None}
+use Rattle.std.specs.Option.{option_or}
 use borrow.Author.Tests.{ltb-false, eqb-true, eqb-false, eq-eqb, not-false}
 use lib.Dec.{eqb, ltb}
 use lib.ListN.{length}
@@ -22,7 +24,7 @@ use Rattle.doubles.proofs.UnsignedLaws.{left_number, right_number, finite_number
 use Rattle.doubles.proofs.UnsignedLaws.{zero_unsigned, unsigned_not_negative, above_unsigned}
 use Rattle.arrival.specs.Axes.{axis_of, missing, blocks, free, ends_at, has, wrong_axis}
 use Rattle.arrival.specs.Arrivals.{wrong_count, WellFormed, FreeForAll, Earliest}
-use Rattle.arrival.specs.Steps.{past, above, Time, Among, Latest, Reached, Passed, Judged, Lowest}
+use Rattle.arrival.specs.Steps.{past, above, Time, Among, Latest, Reached, Passed, Lowest}
 use Rattle.arrival.specs.declared.axis.Axis.{Axis}
 
 pub clash : {X : Type 0} {b : Bool} → b ≡ true → b ≡ false → X
@@ -46,10 +48,6 @@ below_next P n f p i h =
   where
     split : (i n : ℕ) → i < n + 1 → (i ≡ n) ⊎ (i < n)
     split i n h = eq-or-lt_of_le (omega arith)
-
--- what was asked of the axis that was read
-pub asked : {A : Type 0} (f : Axis → A) {x y : Axis} {r b : A} → r ≡ f x → x ≡ y → r ≡ b → f y ≡ b
-asked f h e g = ap f (sym e) ∙ sym h ∙ g
 
 -- ---- the largest duration
 time_above : (x y : Float) → Time x → (x <ᶠ y) ≡ true → Time y
@@ -103,11 +101,11 @@ module _ (x : Axis) (t : Float) where
   unfolding free
   below_not_free l h = true≢false (sym (rw l at h))
 
-  inside_not_free : blocks x.a_left x.a_right t || blocks x.b_left x.b_right t ≡ true
+  inside_not_free : blocks x.a.left x.a.right t || blocks x.b.left x.b.right t ≡ true
       → free x t ≡ true → ⊥
   unfolding free
   inside_not_free h f =
-      go (not (t <ᶠ x.duration)) (blocks x.a_left x.a_right t) (blocks x.b_left x.b_right t) h f
+      go (not (t <ᶠ x.duration)) (blocks x.a.left x.a.right t) (blocks x.b.left x.b.right t) h f
     where
       go : (a b c : Bool) → (b || c) ≡ true → (a && not b && not c) ≡ true → ⊥
       go false b c h f = true≢false (sym f)
@@ -138,94 +136,79 @@ module _ (left right t : Float) (time : Time t) (l : (left <ᶠ t) ≡ true) (r 
       rw (is_there, lt_le left t s l after, g)
 
 -- ---- past a stretch
-module _ (x : Axis) (t : Float) where
-  abbrev inside_a : Bool
-  inside_a = (x.a_left <ᶠ t) && (t <ᶠ x.a_right)
-
-  abbrev inside_b : Bool
-  inside_b = (x.b_left <ᶠ t) && (t <ᶠ x.b_right)
-
-  pub past_first : inside_a ≡ true → x.a_right ≡ past x t
-  unfolding past
-  past_first h = rw h
-
-  pub past_second : inside_a ≡ false → inside_b ≡ true → x.b_right ≡ past x t
-  unfolding past
-  past_second h g = rw (h, g)
-
-  pub past_none : inside_a ≡ false → inside_b ≡ false → t ≡ past x t
-  unfolding past
-  past_none h g = rw (h, g)
-
 pub record Pushed (x : Axis) (t r : Float) : Type 0 where
   pub later : (t <ᶠ r) ≡ true
   pub has_it : has x r ≡ true
   pub none_between : (s : Float) → (s <ᶠ t) ≡ false → (s <ᶠ r) ≡ true → free x s ≡ true → ⊥
-  pub end_of : (r ≡ x.a_right) ⊎ (r ≡ x.b_right)
+  pub end_of : (r ≡ x.a.right) ⊎ (r ≡ x.b.right)
 
 module _ (x : Axis) (t : Float) (time : Time t) where
-  past_a : (x.a_left <ᶠ t) ≡ true → (t <ᶠ x.a_right) ≡ true → Pushed x t x.a_right
+  past_a : (x.a.left <ᶠ t) ≡ true → (t <ᶠ x.a.right) ≡ true → Pushed x t x.a.right
   unfolding has
   past_a l r =
       record {
         later = r;
         has_it = or_left _ _
-            (or_right (x.duration ==ᶠ x.a_right) _ (ends_there x.a_left x.a_right t time l r));
+            (or_right (x.duration ==ᶠ x.a.right) _ (ends_there x.a.left x.a.right t time l r));
         none_between = λ s h g. inside_not_free x s
-            (or_left _ _ (blocks_from x.a_left x.a_right t time l r s h g));
+            (or_left _ _ (blocks_from x.a.left x.a.right t time l r s h g));
         end_of = inl refl;
       }
 
-  past_b : (x.b_left <ᶠ t) ≡ true → (t <ᶠ x.b_right) ≡ true → Pushed x t x.b_right
+  past_b : (x.b.left <ᶠ t) ≡ true → (t <ᶠ x.b.right) ≡ true → Pushed x t x.b.right
   unfolding has
   past_b l r =
       record {
         later = r;
-        has_it = or_right ((x.duration ==ᶠ x.b_right) || ends_at x.a_left x.a_right x.b_right) _
-            (ends_there x.b_left x.b_right t time l r);
+        has_it = or_right ((x.duration ==ᶠ x.b.right) || ends_at x.a.left x.a.right x.b.right) _
+            (ends_there x.b.left x.b.right t time l r);
         none_between = λ s h g. inside_not_free x s
-            (or_right (blocks x.a_left x.a_right s) _
-            (blocks_from x.b_left x.b_right t time l r s h g));
+            (or_right (blocks x.a.left x.a.right s) _
+            (blocks_from x.b.left x.b.right t time l r s h g));
         end_of = inr refl;
       }
 
-  -- where the right end is later, t was inside
-  pub pushed : (t <ᶠ past x t) ≡ true → Pushed x t (past x t)
+  -- a right end is given where t is inside
+  pub pushed : (r : Float) → past x t ≡ Some r → Pushed x t r
   unfolding past
-  pushed = go ((x.a_left <ᶠ t) && (t <ᶠ x.a_right)) refl ((x.b_left <ᶠ t) && (t <ᶠ x.b_right)) refl
+  pushed r = go ((x.a.left <ᶠ t) && (t <ᶠ x.a.right)) refl ((x.b.left <ᶠ t) && (t <ᶠ x.b.right)) refl
     where
       both : (a b : Bool) → (a && b) ≡ true → (a ≡ true) × (b ≡ true)
       both true b h = (refl, h)
       both false b h = absurd (true≢false (sym h))
 
-      go : (a : Bool) → ((x.a_left <ᶠ t) && (t <ᶠ x.a_right)) ≡ a
-          → (b : Bool) → ((x.b_left <ᶠ t) && (t <ᶠ x.b_right)) ≡ b
-          → (t <ᶠ cond a x.a_right (cond b x.b_right t)) ≡ true
-          → Pushed x t (cond a x.a_right (cond b x.b_right t))
-      go true e b f h = let k = both _ _ e in past_a k.0 k.1
-      go false e true f h = let k = both _ _ f in past_b k.0 k.1
-      go false e false f h = clash h (lt_irreflexive t)
+      some_same : {u v : Float} → Some u ≡ Some v → u ≡ v
+      some_same h = cc
 
-  -- where it isn't, t was outside
-  pub outside_free : (t <ᶠ x.duration) ≡ false → (t <ᶠ past x t) ≡ false → free x t ≡ true
+      go : (a : Bool) → ((x.a.left <ᶠ t) && (t <ᶠ x.a.right)) ≡ a
+          → (b : Bool) → ((x.b.left <ᶠ t) && (t <ᶠ x.b.right)) ≡ b
+          → option_or (cond a (Some x.a.right) None) (cond b (Some x.b.right) None) ≡ Some r
+          → Pushed x t r
+      go true e b f h =
+          let k = both _ _ e in
+          let g : x.a.right ≡ r = some_same h in
+          subst (λ (s : Float). Pushed x t s) g (past_a k.0 k.1)
+      go false e true f h =
+          let k = both _ _ f in
+          let g : x.b.right ≡ r = some_same h in
+          subst (λ (s : Float). Pushed x t s) g (past_b k.0 k.1)
+      go false e false f h = absurd (let z : ⊥ = cc in z)
+
+  -- and none where it is outside
+  pub outside_free : (t <ᶠ x.duration) ≡ false → past x t ≡ None → free x t ≡ true
   unfolding past free
   outside_free d =
-      go (x.a_left <ᶠ t) (t <ᶠ x.a_right) refl (x.b_left <ᶠ t) (t <ᶠ x.b_right) refl
-      (missing x.a_left x.a_right) (missing x.b_left x.b_right)
+      go ((x.a.left <ᶠ t) && (t <ᶠ x.a.right)) ((x.b.left <ᶠ t) && (t <ᶠ x.b.right))
+      (missing x.a.left x.a.right) (missing x.b.left x.b.right)
     where
       outside : (m n : Bool) → (not (not m && false) && not (not n && false)) ≡ true
       outside m n = rw (and_false (not m), and_false (not n))
 
-      go : (a b : Bool) → (t <ᶠ x.a_right) ≡ b → (c e : Bool) → (t <ᶠ x.b_right) ≡ e → (m n : Bool)
-          → (t <ᶠ cond (a && b) x.a_right (cond (c && e) x.b_right t)) ≡ false
-          → (not (t <ᶠ x.duration) && not (not m && (a && b)) && not (not n && (c && e))) ≡ true
-      go true true k c e l m n h = clash k h
-      go true false k true true l m n h = clash l h
-      go true false k true false l m n h = rw d (outside m n)
-      go true false k false e l m n h = rw d (outside m n)
-      go false b k true true l m n h = clash l h
-      go false b k true false l m n h = rw d (outside m n)
-      go false b k false e l m n h = rw d (outside m n)
+      go : (a b m n : Bool) → option_or (cond a (Some x.a.right) None) (cond b (Some x.b.right) None) ≡ None
+          → (not (t <ᶠ x.duration) && not (not m && a) && not (not n && b)) ≡ true
+      go true b m n h = absurd (let z : ⊥ = cc in z)
+      go false true m n h = absurd (let z : ⊥ = cc in z)
+      go false false m n h = rw d (outside m n)
 
 -- ---- the right ends above a time
 fewer : (r t x : Float) → (t <ᶠ r) ≡ true → cond (r <ᶠ x) 1 0 ≤ cond (t <ᶠ x) 1 0
@@ -243,24 +226,24 @@ module _ (f : ℕ → Axis) (t r : Float) (l : (t <ᶠ r) ≡ true) where
   above_fewer : (n : ℕ) → above f n r ≤ above f n t
   unfolding above
   above_fewer zero = omega arith
-  above_fewer (suc n) = omega (arith, above_fewer n, fewer r t (f n).a_right l, fewer r t (f n).b_right l)
+  above_fewer (suc n) = omega (arith, above_fewer n, fewer r t (f n).a.right l, fewer r t (f n).b.right l)
 
-  pub above_less : (n k : ℕ) → k < n → (r ≡ (f k).a_right) ⊎ (r ≡ (f k).b_right) → above f n r < above f n t
+  pub above_less : (n k : ℕ) → k < n → (r ≡ (f k).a.right) ⊎ (r ≡ (f k).b.right) → above f n r < above f n t
   unfolding above
   above_less zero k h e = absurd (let z : ⊥ = omega arith in z)
   above_less (suc n) k h e = ⊎_elim
-      (λ (i : k ≡ n). at_last (subst (λ (j : ℕ). (r ≡ (f j).a_right) ⊎ (r ≡ (f j).b_right)) i e))
+      (λ (i : k ≡ n). at_last (subst (λ (j : ℕ). (r ≡ (f j).a.right) ⊎ (r ≡ (f j).b.right)) i e))
       (λ (i : k < n). omega (
         arith,
         above_less n k i e,
-        fewer r t (f n).a_right l,
-        fewer r t (f n).b_right l,
+        fewer r t (f n).a.right l,
+        fewer r t (f n).b.right l,
       ))
       (eq-or-lt_of_le (omega arith))
     where
-      at_last : (r ≡ (f n).a_right) ⊎ (r ≡ (f n).b_right) → above f (suc n) r < above f (suc n) t
-      at_last (inl i) = omega (arith, above_fewer n, one_fewer (f n).a_right i, fewer r t (f n).b_right l)
-      at_last (inr i) = omega (arith, above_fewer n, fewer r t (f n).a_right l, one_fewer (f n).b_right i)
+      at_last : (r ≡ (f n).a.right) ⊎ (r ≡ (f n).b.right) → above f (suc n) r < above f (suc n) t
+      at_last (inl i) = omega (arith, above_fewer n, one_fewer (f n).a.right i, fewer r t (f n).b.right l)
+      at_last (inr i) = omega (arith, above_fewer n, fewer r t (f n).a.right l, one_fewer (f n).b.right i)
 
 -- ---- what number 9 leaves
 neither : (a b : Bool) → (a || b) ≡ false → (a ≡ false) × (b ≡ false)
@@ -350,16 +333,16 @@ module _ (durations ends : List Float) where
 
   -- and goes on past a stretch
   pub goes_on : (t : Float) (k : ℕ) → Reached durations ends t → k < length durations
-      → (t <ᶠ past (axis_at k) t) ≡ true → Reached durations ends (past (axis_at k) t)
-  goes_on t k h there l =
-      let p = pushed (axis_at k) t h.time l in
+      → (r : Float) → past (axis_at k) t ≡ Some r → Reached durations ends r
+  goes_on t k h there r e =
+      let p = pushed (axis_at k) t h.time r e in
       record {
-        time = time_above t (past (axis_at k) t) h.time l;
+        time = time_above t r h.time p.later;
         no_smaller = λ s g all. by_cases (s <ᶠ t)
             (λ i. h.no_smaller s i all)
             (λ i. p.none_between s i g (all k there));
-        none_later = λ i g. by_cases (past (axis_at k) t <ᶠ at durations i)
-            (λ e. clash l (not_through t (past (axis_at k) t) (at durations i) e (h.none_later i g)))
+        none_later = λ i g. by_cases (r <ᶠ at durations i)
+            (λ e. clash p.later (not_through t r (at durations i) e (h.none_later i g)))
             (λ e. e);
         axis = k;
         there = there;
@@ -371,12 +354,12 @@ module _ (durations ends : List Float) where
       → Passed durations ends 0 t
   none_passed w h = record { reached = starts _ w h; outside = λ i l. absurd (let z : ⊥ = omega arith in z) }
 
-  pub one_passed : (n : ℕ) (t r : Float) → Passed durations ends n t → past (axis_at n) t ≡ r → (t <ᶠ r) ≡ false
+  pub one_passed : (n : ℕ) (t : Float) → Passed durations ends n t → past (axis_at n) t ≡ None
       → Passed durations ends (n + 1) t
-  one_passed n t r h e l =
+  one_passed n t h e =
       record {
         reached = h.reached;
-        outside = below_next (λ i. (t <ᶠ past (axis_at i) t) ≡ false) n h.outside (rw e l);
+        outside = below_next (λ i. past (axis_at i) t ≡ None) n h.outside e;
       }
 
   pub all_passed : {n : ℕ} {t : Float} → Passed durations ends n t → n ≡ length durations
@@ -384,19 +367,19 @@ module _ (durations ends : List Float) where
   all_passed {n} {t} h e = subst (λ (m : ℕ). Passed durations ends m t) e h
 
   module _ (k : ℕ) (t r : Float) (h : Passed durations ends k t) (there : k < length durations)
-      (e : past (axis_at k) t ≡ r) (l : (t <ᶠ r) ≡ true) where
+      (e : past (axis_at k) t ≡ Some r) where
     pub again : Passed durations ends 0 r
     again =
         record {
-          reached = rw e at (goes_on t k h.reached there (rw e l));
+          reached = goes_on t k h.reached there r e;
           outside = λ i l. absurd (let z : ⊥ = omega arith in z);
         }
 
     -- each time with fewer right ends above
     fewer_above : above axis_at (length durations) r < above axis_at (length durations) t
     fewer_above =
-        above_less axis_at t r l (length durations) k there
-        (rw e at (pushed (axis_at k) t h.reached.time (rw e l)).end_of)
+        let p = pushed (axis_at k) t h.reached.time r e in
+        above_less axis_at t r p.later (length durations) k there p.end_of
 
     pub fewer_turns : (i j : ℕ)
         → above axis_at (length durations) r * suc (length durations) + (length durations - j)
@@ -409,28 +392,21 @@ module _ (durations ends : List Float) where
       outside_free (axis_at i) t h.reached.time (rw (duration_is i) (h.reached.none_later i l)) (h.outside i l)
 
   -- ---- number 9
-  pub refused_by_count : (eqb (length durations) 0 || ltb 8 (length durations)) ≡ true → Judged durations ends false
-  refused_by_count h =
-      record { if_true = λ e. clash e refl; if_false = λ _ w. clash h (count_right durations ends w.count) }
+  pub refused_by_count : (eqb (length durations) 0 || ltb 8 (length durations)) ≡ true
+      → WellFormed durations ends → ⊥
+  refused_by_count h w = clash h (count_right durations ends w.count)
 
-  pub refused_by_length : (length ends ≡ 4 * length durations → ⊥) → Judged durations ends false
-  refused_by_length h =
-      record { if_true = λ e. clash e refl; if_false = λ _ w. h (four_ends durations ends w.count) }
-
-  pub refused_by_axis : (i : ℕ) → i < length durations → wrong_axis (axis_at i) ≡ true → Judged durations ends false
-  refused_by_axis i l h = record { if_true = λ e. clash e refl; if_false = λ _ w. clash h (w.axes i l) }
+  pub refused_by_length : (length ends ≡ 4 * length durations → ⊥) → WellFormed durations ends → ⊥
+  refused_by_length h w = h (four_ends durations ends w.count)
 
   pub admitted : (n : ℕ) → n ≡ length durations → (eqb (length durations) 0 || ltb 8 (length durations)) ≡ false
       → length ends ≡ 4 * length durations → ((i : ℕ) → i < n → wrong_axis (axis_at i) ≡ false)
-      → Judged durations ends true
+      → WellFormed durations ends
   unfolding wrong_count
   admitted n e h m f =
       record {
-        if_true = λ _. record {
-          count = rw (h, eq-eqb (length ends) (4 * length durations) m);
-          axes = λ i l. f i (rw (← e) at l);
-        };
-        if_false = λ e. clash refl e;
+        count = rw (h, eq-eqb (length ends) (4 * length durations) m);
+        axes = λ i l. f i (rw (← e) at l);
       }
 
   -- ---- the end of the scan
@@ -450,43 +426,16 @@ module _ (durations ends : List Float) where
   never {t} h e s i = h.reached.no_smaller s (finite_below t s h.reached.time e i)
 
   -- ---- the lowest axis
-  pub lowest_of_none : (t : Float) → Lowest durations ends (length durations) t (length durations)
-  lowest_of_none t =
-      record {
-        most = omega arith;
-        has_it = λ l. absurd (let z : ⊥ = omega arith in z);
-        lowest = λ i l g. absurd (let z : ⊥ = omega arith in z);
-      }
-
-  module _ (n : ℕ) (t : Float) (k : ℕ) (h : Lowest durations ends n t k) where
-    pub lowest_taken : 0 < n → n ≤ length durations → has (axis_at (n - 1)) t ≡ true
-        → Lowest durations ends (n - 1) t (n - 1)
-    lowest_taken p l e =
-        record { most = omega arith; has_it = λ _. e; lowest = λ i l g. absurd (let z : ⊥ = omega arith in z) }
-
-    pub lowest_kept : 0 < n → has (axis_at (n - 1)) t ≡ false → Lowest durations ends (n - 1) t k
-    lowest_kept p e =
-        record {
-          most = h.most;
-          has_it = h.has_it;
-          lowest = λ i l g. ⊎_elim
-              (λ (j : n - 1 ≡ i). subst (λ (m : ℕ). has (axis_at m) t ≡ false) j e)
-              (λ (j : n - 1 < i). h.lowest i (omega arith) g)
-              (eq-or-lt_of_le l);
-        }
-
-  pub lowest_of_all : {n : ℕ} {t : Float} {k : ℕ} → Lowest durations ends n t k → n ≡ 0 → Lowest durations ends 0 t k
-  lowest_of_all {n} {t} {k} h e = subst (λ (m : ℕ). Lowest durations ends m t k) e h
 
   -- an axis has the time, so the lowest that has it is there
-  lowest_there : (t : Float) (k : ℕ) → Reached durations ends t → Lowest durations ends 0 t k → k < length durations
+  lowest_there : (t : Float) (k : ℕ) → Reached durations ends t → Lowest durations ends t k → k < length durations
   lowest_there t k h l = ⊎_elim
-      (λ (e : k ≡ length durations). clash h.has_it (l.lowest h.axis (omega arith) (omega (arith, h.there))))
+      (λ (e : k ≡ length durations). clash h.has_it (l.lowest h.axis (omega (arith, h.there))))
       (λ (g : k < length durations). g)
       (eq-or-lt_of_le l.most)
 
   pub earliest : {t : Float} {k : ℕ} → Passed durations ends (length durations) t → Fits t → finite t ≡ true
-      → Lowest durations ends 0 t k → Earliest durations ends t k
+      → Lowest durations ends t k → Earliest durations ends t k
   earliest {t} {k} h f e l =
       let there = lowest_there t k h.reached l in
       record {
@@ -497,5 +446,5 @@ module _ (durations ends : List Float) where
         no_smaller = h.reached.no_smaller;
         there = there;
         has_it = l.has_it there;
-        lowest = λ i g. l.lowest i (omega arith) g;
+        lowest = l.lowest;
       }

@@ -1,29 +1,25 @@
 -- One arrival time for all axes of a move: the earliest duration that none of them blocks, with the axis that has it,
 -- or document 02's number 9 or 10. Definitions only.
-use Rattle.std.specs.Prelude.{ℕ, ◌*◌, ◌<◌, ◌≡◌, Bool, true, false, not, ◌||◌, List, eqb, ltb, length, Float}
+use Rattle.std.specs.Prelude.{ℕ, ◌*◌, ◌<◌, ◌≡◌, Bool, true, false, not, ◌||◌, ◌⊎◌, Result, Ok, Err, List, eqb, ltb}
+use Rattle.std.specs.Prelude.{length, Float}
+use Rattle.refusals.specs.Numbers.{number_of}
+use Rattle.refusals.specs.declared.Refusal.{Refusal}
+use Rattle.refusals.specs.declared.Refusal.TheVariants.{WrongAxes, NeverFree}
 use Rattle.doubles.specs.Operators.{◌<ᶠ◌}
 use Rattle.doubles.specs.Constants.{0ᶠ}
 use Rattle.doubles.specs.Functions.{absᶠ}
 use Rattle.doubles.specs.Value.{Fits, Finite}
 use Rattle.arrival.specs.Axes.{axes_most, ends_length, axis_of, free, has, wrong_axis}
 use Rattle.arrival.specs.declared.answer.Arrival.{Arrival}
-use Rattle.arrival.specs.declared.answer.Arrival.TheVariants.{At, Malformed, Never}
 
--- ---- the paper's number and values for each answer
-abbrev pub arrival_number : Arrival → ℕ
-arrival_number (At time axis) = 0
-arrival_number Malformed = 9
-arrival_number Never = 10
+-- ---- the paper's values for each answer; its number is `number_of`
+abbrev pub arrival_time : Result Arrival Refusal → Float
+arrival_time (Ok arrival) = arrival.time
+arrival_time (Err _) = 0ᶠ
 
-abbrev pub arrival_time : Arrival → Float
-arrival_time (At time axis) = time
-arrival_time Malformed = 0ᶠ
-arrival_time Never = 0ᶠ
-
-abbrev pub arrival_axis : Arrival → ℕ
-arrival_axis (At time axis) = axis
-arrival_axis Malformed = 0
-arrival_axis Never = 0
+abbrev pub arrival_axis : Result Arrival Refusal → ℕ
+arrival_axis (Ok arrival) = arrival.axis
+arrival_axis (Err _) = 0
 
 module _ (durations ends : List Float) where
   -- ---- number 9
@@ -59,16 +55,22 @@ module _ (durations ends : List Float) where
     pub lowest : (i : ℕ) → i < axis → has (axis_of durations ends i) time ≡ false
 
   -- ---- the answer: one and only one is it (proofs/ArrivalLaws.antt)
-  abbrev pub IsArrival : Arrival → Type 0
-  IsArrival (At time axis) = WellFormed × Earliest time axis
-  IsArrival Malformed = WellFormed → ⊥
-  IsArrival Never = WellFormed × ((t : Float) → Finite t → FreeForAll t → ⊥)
+
+  -- number 9 applies, or no finite time is free for all
+  abbrev pub IsRefused : Refusal → Type 0
+  IsRefused refusal =
+      ((refusal ≡ WrongAxes) × (WellFormed → ⊥))
+      ⊎ ((refusal ≡ NeverFree) × WellFormed × ((t : Float) → Finite t → FreeForAll t → ⊥))
+
+  abbrev pub IsArrival : Result Arrival Refusal → Type 0
+  IsArrival (Ok arrival) = WellFormed × Earliest arrival.time arrival.axis
+  IsArrival (Err refusal) = IsRefused refusal
 
   -- the answer in three numbers, as programs in C and Rust are given it: on a refusal time 0 and axis 0
   pub record Given (number : ℕ) (time : Float) (axis : ℕ) : Type 0 where
-    pub answer : Arrival
+    pub answer : Result Arrival Refusal
     pub is_arrival : IsArrival answer
-    pub number_is : number ≡ arrival_number answer
+    pub number_is : number ≡ number_of answer
     pub time_is : time ≡ arrival_time answer
     pub axis_is : axis ≡ arrival_axis answer
 

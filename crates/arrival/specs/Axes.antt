@@ -20,10 +20,8 @@ unfoldable pub axis_of : (durations ends : List Float) → ℕ → Axis
 axis_of durations ends i =
     record {
       duration = at durations i;
-      a_left = at ends (ends_length * i);
-      a_right = at ends (ends_length * i + 1);
-      b_left = at ends (ends_length * i + 2);
-      b_right = at ends (ends_length * i + 3);
+      a = record { left = at ends (ends_length * i); right = at ends (ends_length * i + 1) };
+      b = record { left = at ends (ends_length * i + 2); right = at ends (ends_length * i + 3) };
     }
 
 -- a missing stretch is 0 and 0
@@ -39,7 +37,7 @@ blocks left right t = not (missing left right) && ((left <ᶠ t) && (t <ᶠ righ
 -- t is not below the shortest duration, and inside no stretch
 unfoldable pub free : Axis → Float → Bool
 free x t =
-    not (t <ᶠ x.duration) && not (blocks x.a_left x.a_right t) && not (blocks x.b_left x.b_right t)
+    not (t <ᶠ x.duration) && not (blocks x.a.left x.a.right t) && not (blocks x.b.left x.b.right t)
 
 -- ---- which axis it is that has t
 
@@ -50,7 +48,7 @@ ends_at left right t = not (missing left right) && (right ==ᶠ t)
 -- t is its shortest duration or a right end
 unfoldable pub has : Axis → Float → Bool
 has x t =
-    (x.duration ==ᶠ t) || ends_at x.a_left x.a_right t || ends_at x.b_left x.b_right t
+    (x.duration ==ᶠ t) || ends_at x.a.left x.a.right t || ends_at x.b.left x.b.right t
 
 -- ---- number 9, of an axis
 
@@ -65,5 +63,5 @@ unfoldable pub wrong_axis : Axis → Bool
 wrong_axis x =
     (x.duration <ᶠ 0ᶠ)
     || not (finite x.duration)
-    || wrong_stretch x.duration x.a_left x.a_right
-    || wrong_stretch x.duration x.b_left x.b_right
+    || wrong_stretch x.duration x.a.left x.a.right
+    || wrong_stretch x.duration x.b.left x.b.right

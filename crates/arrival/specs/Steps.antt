@@ -1,23 +1,27 @@
 -- The steps of the scan. Definitions only.
-use Rattle.std.specs.Prelude.{ℕ, zero, suc, ◌+◌, ◌<◌, ◌≤◌, ◌≡◌, Bool, true, false, cond, ◌&&◌, List, ◌⊎◌, length, Float}
+use Rattle.std.specs.Prelude.{ℕ, zero, suc, ◌+◌, ◌<◌, ◌≤◌, ◌≡◌, true, false, cond, ◌&&◌, List, ◌⊎◌, length, Float}
+use Rattle.std.specs.Prelude.{Option, Some, None}
+use Rattle.std.specs.Option.{option_or}
 use Rattle.std.specs.Float.Ieee.{is_nan}
 use Rattle.doubles.specs.Operators.{◌<ᶠ◌, at}
 use Rattle.doubles.specs.Constants.{0ᶠ}
 use Rattle.doubles.specs.Functions.{absᶠ}
 use Rattle.arrival.specs.Axes.{axis_of, has}
-use Rattle.arrival.specs.Arrivals.{WellFormed, FreeForAll}
+use Rattle.arrival.specs.Arrivals.{FreeForAll}
 use Rattle.arrival.specs.declared.axis.Axis.{Axis}
 
--- the right end of a stretch that t is inside, and t where it is inside none
-unfoldable pub past : Axis → Float → Float
-past x t =
-    cond ((x.a_left <ᶠ t) && (t <ᶠ x.a_right)) x.a_right
-    (cond ((x.b_left <ᶠ t) && (t <ᶠ x.b_right)) x.b_right t)
+-- the right end of a stretch that t is inside
+abbrev pub past_stretch : (left right t : Float) → Option Float
+past_stretch left right t = cond ((left <ᶠ t) && (t <ᶠ right)) (Some right) None
+
+-- that of the first of an axis's two stretches that t is inside
+unfoldable pub past : Axis → Float → Option Float
+past x t = option_or (past_stretch x.a.left x.a.right t) (past_stretch x.b.left x.b.right t)
 
 -- how many right ends of the first n axes are above t
 unfoldable pub above : (ℕ → Axis) → ℕ → Float → ℕ
 above f zero t = 0
-above f (suc n) t = above f n t + cond (t <ᶠ (f n).a_right) 1 0 + cond (t <ᶠ (f n).b_right) 1 0
+above f (suc n) t = above f n t + cond (t <ᶠ (f n).a.right) 1 0 + cond (t <ᶠ (f n).b.right) 1 0
 
 -- a time as the scan has it: a number, and its sign is plus, so it is neither below 0 nor -0
 pub record Time (t : Float) : Type 0 where
@@ -49,15 +53,10 @@ module _ (durations ends : List Float) where
   -- and none of the first n axes has it inside a stretch
   pub record Passed (n : ℕ) (t : Float) : Type 0 where
     pub reached : Reached t
-    pub outside : (i : ℕ) → i < n → (t <ᶠ past (axis_of durations ends i) t) ≡ false
+    pub outside : (i : ℕ) → i < n → past (axis_of durations ends i) t ≡ None
 
-  -- whether number 9 doesn't apply
-  pub record Judged (r : Bool) : Type 0 where
-    pub if_true : r ≡ true → WellFormed durations ends
-    pub if_false : r ≡ false → WellFormed durations ends → ⊥
-
-  -- the lowest axis from n on that has t, or the number of axes
-  pub record Lowest (n : ℕ) (t : Float) (k : ℕ) : Type 0 where
+  -- the lowest axis that has t, or the number of axes
+  pub record Lowest (t : Float) (k : ℕ) : Type 0 where
     pub most : k ≤ length durations
     pub has_it : k < length durations → has (axis_of durations ends k) t ≡ true
-    pub lowest : (i : ℕ) → n ≤ i → i < k → has (axis_of durations ends i) t ≡ false
+    pub lowest : (i : ℕ) → i < k → has (axis_of durations ends i) t ≡ false

@@ -6,6 +6,8 @@ ghost use Rattle.arrival.specs.Axes.{axes_most, ends_length};
 ghost use Rattle.arrival.specs.Arrivals.{IsArrival};
 
 use crate::axis::{AXES_MOST, ENDS_LENGTH};
+use crate::scan::Axes;
+use refusals::Refusal;
 
 mod answer; // answer.rt: what is answered
 mod axis; // axis.rt: one axis
@@ -14,18 +16,20 @@ mod scan; // scan.rt: all axes of two slices
 pub use answer::Arrival;
 
 // `durations` has the shortest duration of each axis, `ends` four numbers for each: left and right of each stretch. A
-// missing stretch is 0 and 0, one from a time on ends at infinity.
-pub fn arrival(durations: &[f64], ends: &[f64]) -> Arrival
+// missing stretch is 0 and 0, one from a time on ends at infinity. Refused where the slices aren't those of 1 to 8
+// plans, and where no finite time is free for all.
+pub fn arrival(durations: &[f64], ends: &[f64]) -> Result<Arrival, Refusal>
     ensures { IsArrival durations.now ends.now result }
 {
-    if !scan::admitted(durations, ends) {
-        return Arrival::Malformed;
-    }
-    let time = scan::earliest(durations, ends);
+    let axes = Axes::new(durations, ends)?;
+    let time = axes.earliest();
     if !doubles::is_finite(time) {
-        return Arrival::Never;
+        return Err(Refusal::NeverFree);
     }
-    Arrival::At(time, scan::lowest(durations, ends, time))
+    Ok(Arrival {
+        time,
+        axis: axes.lowest(time),
+    })
 }
 
 // The numbers of the code are those of the definitions.

@@ -1,12 +1,14 @@
 // All axes of two slices.
 
-ghost use Rattle.std.specs.Prelude.{◌≡◌, ◌*◌, ◌<◌, length};
+ghost use Rattle.std.specs.Prelude.{◌≡◌, ◌*◌, ◌<◌, length, IfOk, IfErr};
 ghost use Rattle.arrival.specs.Axes.{ends_length, axis_of};
 ghost use Rattle.arrival.specs.Arrivals.{WellFormed};
-ghost use Rattle.arrival.specs.Steps.{Latest, Passed, Judged, Lowest};
+ghost use Rattle.arrival.specs.Steps.{Latest, Passed, Lowest};
 
-use crate::axis::{AXES_MOST, Axis, ENDS_LENGTH};
+use crate::axis::{AXES_MOST, Axis, ENDS_LENGTH, Stretch};
+use refusals::Refusal;
 
+#[tactic(auto, unfolding(crate::specs::Axes::axis_of))]
 fn axis_at(durations: &[f64], ends: &[f64], i: usize) -> Axis
     requires i_in_bounds { i < length durations.now }
     requires ends_len { length ends.now ≡ ends_length * length durations.now }
@@ -15,83 +17,93 @@ fn axis_at(durations: &[f64], ends: &[f64], i: usize) -> Axis
     let at = ENDS_LENGTH * i;
     Axis {
         duration: durations[i],
-        a_left: ends[at],
-        a_right: ends[at + 1],
-        b_left: ends[at + 2],
-        b_right: ends[at + 3],
+        a: Stretch {
+            left: ends[at],
+            right: ends[at + 1],
+        },
+        b: Stretch {
+            left: ends[at + 2],
+            right: ends[at + 3],
+        },
     }
 }
 
-// Whether number 9 doesn't apply.
-pub fn admitted(durations: &[f64], ends: &[f64]) -> bool
-    ensures { Judged durations.now ends.now result }
-{
-    let count = durations.len();
-    if (count == 0) | (count > AXES_MOST) {
-        return false;
-    }
-    if ends.len() != ENDS_LENGTH * count {
-        return false;
-    }
-    let mut i = 0;
-    while i < count {
-        if axis_at(durations, ends, i).is_wrong() {
-            return false;
-        }
-        i += 1;
-    }
-    true
+// The axes of two slices that number 9 doesn't turn back.
+#[derive(Clone, Copy)]
+pub struct Axes<'a> {
+    durations: &'a [f64],
+    ends: &'a [f64],
+    ghost well_formed: { WellFormed durations.now ends.now },
 }
 
-// The largest duration, and +0 where all are zeros.
-fn latest(durations: &[f64]) -> f64
-    ensures { Latest durations.now (length durations.now) result }
-{
-    let mut time = 0.0;
-    let mut i = 0;
-    while i < durations.len() {
-        let duration = durations[i];
-        if time < duration {
-            time = duration;
+impl<'a> Axes<'a> {
+    // Refused where number 9 applies.
+    pub fn new(durations: &'a [f64], ends: &'a [f64]) -> Result<Axes<'a>, Refusal>
+        ensures ok { IfOk result (λ axes. (axes.durations.now ≡ durations.now) × (axes.ends.now ≡ ends.now)) }
+        ensures err { IfErr result
+            (λ refusal. (refusal ≡ Refusal.WrongAxes) × (WellFormed durations.now ends.now → ⊥)) }
+    {
+        let count = durations.len();
+        if (count == 0) | (count > AXES_MOST) {
+            return Err(Refusal::WrongAxes);
         }
-        i += 1;
+        if ends.len() != ENDS_LENGTH * count {
+            return Err(Refusal::WrongAxes);
+        }
+        for i in 0..count {
+            if axis_at(durations, ends, i).is_wrong() {
+                return Err(Refusal::WrongAxes);
+            }
+        }
+        Ok(Axes { durations, ends })
     }
-    time
-}
 
-// The earliest time that is free for all axes, infinity where no finite one is. From the largest duration on, whenever
-// an axis has the time inside a stretch, the scan goes on at that stretch's right end, from the first axis again.
-pub fn earliest(durations: &[f64], ends: &[f64]) -> f64
-    requires { WellFormed durations.now ends.now }
-    ensures { Passed durations.now ends.now (length durations.now) result }
-{
-    let mut time = latest(durations);
-    let mut i = 0;
-    while i < durations.len() {
-        let past = axis_at(durations, ends, i).past(time);
-        if time < past {
-            time = past;
-            i = 0;
-        } else {
-            i += 1;
-        }
+    fn axis(&self, i: usize) -> Axis
+        requires { i < length self.now.durations.now }
+        ensures { result ≡ axis_of self.now.durations.now self.now.ends.now i }
+    {
+        axis_at(self.durations, self.ends, i)
     }
-    time
-}
 
-// The lowest axis that has the time as its shortest duration or as a right end; the number of axes where none has. From
-// the last axis to the first, so that the lowest stays.
-pub fn lowest(durations: &[f64], ends: &[f64], time: f64) -> u64
-    requires { length ends.now ≡ ends_length * length durations.now }
-    ensures { Lowest durations.now ends.now 0 time result }
-{
-    let mut lowest = durations.len();
-    let mut i = lowest;
-    while i > 0 {
-        i -= 1;
-        if axis_at(durations, ends, i).has(time) {
-            lowest = i;
+    // The largest duration, and +0 where all are zeros.
+    fn latest(&self) -> f64
+        ensures { Latest self.now.durations.now (length self.now.durations.now) result }
+    {
+        let mut time = 0.0;
+        for &duration in self.durations {
+            if time < duration {
+                time = duration;
+            }
         }
+        time
     }
-    lowest as u64
+
+    // The earliest time that is free for all axes, infinity where no finite one is. From the largest duration on,
+    // whenever an axis has the time inside a stretch, the scan goes on at that stretch's right end, from the first axis
+    // again.
+    pub fn earliest(&self) -> f64
+        ensures { Passed self.now.durations.now self.now.ends.now (length self.now.durations.now) result }
+    {
+        let mut time = self.latest();
+        let mut axes = 0..self.durations.len();
+        while let Some(i) = axes.next() {
+            if let Some(later) = self.axis(i).past(time) {
+                time = later;
+                axes = 0..self.durations.len();
+            }
+        }
+        time
+    }
+
+    // The lowest axis that has the time as its shortest duration or as a right end; the number of axes where none has.
+    pub fn lowest(&self, time: f64) -> u64
+        ensures { Lowest self.now.durations.now self.now.ends.now time result }
+    {
+        for i in 0..self.durations.len() {
+            if self.axis(i).has(time) {
+                return i as u64;
+            }
+        }
+        self.durations.len() as u64
+    }
 }

@@ -14,6 +14,7 @@ use arrival::{Arrival, arrival};
 use decimals::{DECIMAL_WIDTH, put_number};
 use encoding::{byte_at, double_at};
 use profile_lines::{DOUBLE_WIDTH, put, put_double};
+use refusals::Refusal;
 
 // The most durations and the most ends of a record.
 const DURATIONS_MOST: usize = 10;
@@ -37,18 +38,20 @@ fn doubles_from(bytes: &[u8], at: usize, count: usize) -> [f64; ENDS_MOST]
     numbers
 }
 
-fn put_arrival(out: &mut [u8], at: usize, x: Arrival) -> usize
+fn put_arrival(out: &mut [u8], at: usize, answer: Result<Arrival, Refusal>) -> usize
     requires { at + text_width ≤ length out.old }
-    ensures { Puts out.old out.new at result (text_of x) text_width }
+    ensures { Puts out.old out.new at result (text_of answer) text_width }
 {
-    match x {
-        Arrival::At(time, axis) => {
+    match answer {
+        Ok(arrival) => {
             let ok_end = put(out, at, b"ok");
-            let time_end = put_double(out, ok_end, time);
-            put_number(out, time_end, axis)
+            let time_end = put_double(out, ok_end, arrival.time);
+            put_number(out, time_end, arrival.axis)
         }
-        Arrival::Malformed => put(out, at, b"refused 9"),
-        Arrival::Never => put(out, at, b"refused 10"),
+        Err(refusal) => {
+            let refused_end = put(out, at, b"refused");
+            put_number(out, refused_end, u64::from(refusal))
+        }
     }
 }
 

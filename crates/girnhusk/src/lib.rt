@@ -41,10 +41,18 @@ pub extern "C" fn girnhusk_arrival(
 ) -> u64
     ensures { Given durations.now ends.now result time.new axis.new }
 {
-    let arrival = arrival::arrival(durations, ends);
-    *time = arrival.time();
-    *axis = arrival.axis();
-    arrival.number()
+    match arrival::arrival(durations, ends) {
+        Ok(arrival) => {
+            *time = arrival.time;
+            *axis = arrival.axis;
+            0
+        }
+        Err(refusal) => {
+            *time = 0.0;
+            *axis = 0;
+            u64::from(refusal)
+        }
+    }
 }
 
 // The elementary functions as the planner uses them.

@@ -38,10 +38,8 @@ unfoldable pub axis_in : List Float → Axis
 axis_in buffer =
     record {
       duration = at buffer duration_at;
-      a_left = at buffer (stretch_a_at + 1);
-      a_right = at buffer (stretch_a_at + 2);
-      b_left = at buffer (stretch_b_at + 1);
-      b_right = at buffer (stretch_b_at + 2);
+      a = record { left = at buffer (stretch_a_at + 1); right = at buffer (stretch_a_at + 2) };
+      b = record { left = at buffer (stretch_b_at + 1); right = at buffer (stretch_b_at + 2) };
     }
 
 -- what planning gives: its status, what the buffer holds at the end, and for a plan the planner's promises

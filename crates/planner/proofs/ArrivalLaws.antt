@@ -8,13 +8,17 @@ use native.Mathlib.Omega.{arith}
 use borrow.Author.Tests.{le-ltb, eq-eqb, ne_eqb}
 use lib.ListN.{length}
 use lib.Ieee.{Float}
+use Rattle.std.specs.Prelude.{Result, Ok, Err}
+use mathlib.Core.Logic.{inl, inr}
+use Rattle.refusals.specs.Numbers.{number_of}
+use Rattle.refusals.specs.declared.Refusal.{Refusal}
 use Rattle.doubles.specs.Operators.{at}
 use Rattle.doubles.specs.Value.{Finite}
 use Rattle.block.specs.declared.Block.{Block}
 use Rattle.arrival.specs.Axes.{axis_of}
-use Rattle.arrival.specs.Arrivals.{arrival_number, wrong_count, WellFormed, FreeForAll, IsArrival}
+use Rattle.arrival.specs.Arrivals.{wrong_count, WellFormed, FreeForAll, IsArrival}
 use Rattle.arrival.specs.declared.answer.Arrival.{Arrival}
-use Rattle.arrival.specs.declared.answer.Arrival.TheVariants.{At, Malformed, Never}
+use Rattle.arrival.proofs.ArrivalLaws.{nine}
 use Rattle.planner.specs.Arrival.{axis_of_plan, plan_durations, plan_ends, plan_at, AllJoinable, AllFree, Meets}
 use Rattle.planner.proofs.AxisLaws.{free_says}
 
@@ -86,17 +90,16 @@ module _ (bs : List Block) (t : Float) (f : Finite t) where
       rw (axis_of_plan_law bs i m) ((free_says (plan_at bs i) t f).0 (h i m))
 
 -- at the time of the arrival each plan is free, and at no smaller finite time all are; or at no finite time all are
-pub arrival_meets : (bs : List Block) → 0 < length bs → length bs ≤ 8 → AllJoinable bs → (r : Arrival)
+pub arrival_meets : (bs : List Block) → 0 < length bs → length bs ≤ 8 → AllJoinable bs → (r : Result Arrival Refusal)
     → IsArrival (plan_durations bs) (plan_ends bs) r → Meets bs r
-arrival_meets bs some few joinable (At time axis) a = (
-  each_says bs time a.1.finite a.1.free,
+arrival_meets bs some few joinable (Ok x) a = (
+  each_says bs x.time a.1.finite a.1.free,
   λ t f l g. a.1.no_smaller t l (all_free bs t f g),
 )
-arrival_meets bs some few joinable Malformed a = a (plans_well_formed bs some few joinable)
-arrival_meets bs some few joinable Never a = λ t f g. a.1 t f (all_free bs t f g)
+arrival_meets bs some few joinable (Err refusal) (inl a) = absurd (a.1 (plans_well_formed bs some few joinable))
+arrival_meets bs some few joinable (Err refusal) (inr a) = (a.0, λ t f g. a.2 t f (all_free bs t f g))
 
-pub never_nine : (bs : List Block) → 0 < length bs → length bs ≤ 8 → AllJoinable bs → (r : Arrival)
-    → IsArrival (plan_durations bs) (plan_ends bs) r → arrival_number r ≡ 9 → ⊥
-never_nine bs some few joinable (At time axis) a e = omega arith
-never_nine bs some few joinable Malformed a e = arrival_meets bs some few joinable Malformed a
-never_nine bs some few joinable Never a e = omega arith
+pub never_nine : (bs : List Block) → 0 < length bs → length bs ≤ 8 → AllJoinable bs → (r : Result Arrival Refusal)
+    → IsArrival (plan_durations bs) (plan_ends bs) r → number_of r ≡ 9 → ⊥
+never_nine bs some few joinable r a e =
+    (nine (plan_durations bs) (plan_ends bs) r a).0 e (plans_well_formed bs some few joinable)

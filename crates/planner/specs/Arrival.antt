@@ -1,6 +1,6 @@
 -- Plans as the axes of a move: what the arrival of several axes reads of each plan, and what it tells of them.
 -- Definitions only.
-use Rattle.std.specs.Prelude.{ℕ, ◌<◌, ◌≡◌, true, false, List, [], ◌∷◌, ◌++◌, length, get_or, Float}
+use Rattle.std.specs.Prelude.{ℕ, ◌<◌, ◌≡◌, true, false, List, [], ◌∷◌, ◌++◌, length, get_or, Result, Ok, Err, Float}
 use Rattle.doubles.specs.Operators.{◌<ᶠ◌}
 use Rattle.doubles.specs.Value.{Finite}
 use Rattle.block.specs.Blocks.{left_end, right_end, both_ends, empty_block, blocking_of}
@@ -10,7 +10,8 @@ use Rattle.block.specs.declared.Blocking.TheVariants.{Free}
 use Rattle.arrival.specs.Axes.{wrong_axis}
 use Rattle.arrival.specs.declared.axis.Axis.{Axis}
 use Rattle.arrival.specs.declared.answer.Arrival.{Arrival}
-use Rattle.arrival.specs.declared.answer.Arrival.TheVariants.{At, Malformed, Never}
+use Rattle.refusals.specs.declared.Refusal.{Refusal}
+use Rattle.refusals.specs.declared.Refusal.TheVariants.{NeverFree}
 
 -- a plan's shortest duration and the ends of its stretches: a missing one is 0 and 0, one from a time on ends at
 -- infinity
@@ -18,10 +19,8 @@ unfoldable pub axis_of_plan : Block → Axis
 axis_of_plan b =
     record {
       duration = b.t_min;
-      a_left = left_end b.a.stretch;
-      a_right = right_end b.a.stretch;
-      b_left = left_end b.b.stretch;
-      b_right = right_end b.b.stretch;
+      a = record { left = left_end b.a.stretch; right = right_end b.a.stretch };
+      b = record { left = left_end b.b.stretch; right = right_end b.b.stretch };
     }
 
 -- number 9 doesn't turn back what was planned
@@ -53,7 +52,6 @@ AllFree bs t = (i : ℕ) → i < length bs → blocking_of (plan_at bs i) t ≡ 
 
 -- what the arrival tells of the plans: each is free at its time, and at no smaller finite time all are; or at no finite
 -- time all are
-abbrev pub Meets : List Block → Arrival → Type 0
-Meets bs (At time axis) = AllFree bs time × ((t : Float) → Finite t → (t <ᶠ time) ≡ true → AllFree bs t → ⊥)
-Meets bs Malformed = ⊥
-Meets bs Never = (t : Float) → Finite t → AllFree bs t → ⊥
+abbrev pub Meets : List Block → Result Arrival Refusal → Type 0
+Meets bs (Ok x) = AllFree bs x.time × ((t : Float) → Finite t → (t <ᶠ x.time) ≡ true → AllFree bs t → ⊥)
+Meets bs (Err refusal) = (refusal ≡ NeverFree) × ((t : Float) → Finite t → AllFree bs t → ⊥)
