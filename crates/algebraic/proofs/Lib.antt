@@ -1,3 +1,3 @@
 -- Laws of algebraic numbers.
 pub mod Forms
-pub mod Codes
+pub mod Orderings

@@ -6,6 +6,7 @@ ghost use Rattle.algebraic.specs.Reals.{real_of, Valid};
 
 use crate::Algebraic;
 use crate::order::compared;
+use std::cmp::Ordering;
 
 // The largest whole number that is at most the algebraic number, one binary digit a round.
 fn floor_by_digits(c: Algebraic) -> u64
@@ -13,11 +14,9 @@ fn floor_by_digits(c: Algebraic) -> u64
     ensures { (result < 2 ^ 54) × (result ≡ floor_from (real_of c) 53 (2 ^ 53)) }
 {
     let mut n: u64 = 0x20_0000_0000_0000;
-    let mut d: u64 = 53;
-    while d > 0 {
-        d -= 1;
+    for d in (0..53u64).rev() {
         let t = n + (1u64 << d);
-        if compared(c, t) != 0 {
+        if compared(c, t).is_ge() {
             n = t;
         }
     }
@@ -31,12 +30,9 @@ pub fn rounded_by_digits(c: Algebraic) -> u64
     ensures { RoundsTo (real_of c) result }
 {
     let q = floor_by_digits(c) >> 1;
-    let side = compared(c, 2 * q + 1);
-    if side == 0 {
-        return q;
+    match compared(c, 2 * q + 1) {
+        Ordering::Less => q,
+        Ordering::Equal => q + q % 2,
+        Ordering::Greater => q + 1,
     }
-    if side == 1 {
-        return q + q % 2;
-    }
-    q + 1
 }

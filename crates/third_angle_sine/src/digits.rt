@@ -13,14 +13,16 @@ fn binade(high: u64, low: u64) -> u64
     requires { (0 < high * 2 ^ 64 + low) × (high * 2 ^ 64 + low ≤ 2 ^ 128 - 2 ^ 75) }
     ensures { (0 < result) × (result < 28) × InBinade (third_angle_sine_real (2 ^ (54 + result)) false (high * 2 ^ 64 + low) (2 ^ 128)) }
 {
-    let mut e: u64 = 1;
-    while e < 27 {
-        if algebraic::order::compared(Algebraic::Sine(0, high, low, e), 0x20_0000_0000_0000) != 0 {
+    for e in 1..27u64 {
+        if algebraic::order::compared(
+            Algebraic::Sine(0, high, low, e),
+            0x20_0000_0000_0000,
+        ).is_ge()
+        {
             return e;
         }
-        e += 1;
     }
-    e
+    27
 }
 
 // The pattern of the sine for the t with this sign bit and this pattern of its magnitude: below 1/2 for a t above 0, and

@@ -5,10 +5,13 @@ use native.Mathlib.Nat.{pow-succ'}
 use native.Mathlib.Omega.{arith}
 use lib.Pow.{pow_mono, pow_pos}
 use Rattle.elementary.specs.Nearest.{Real, floor_from}
-use Rattle.words.specs.Limbs.{code}
+use mathlib.Core.Bool.{Bool}
+use Rattle.std.specs.Ordering.{is_ge}
+use Rattle.std.specs.declared.cmp.Ordering.{Ordering}
+use Rattle.words.specs.Limbs.{ordering_of}
 use Rattle.algebraic.specs.Reals.{real_of}
 use Rattle.elementary.proofs.Binade.{digit_one, digit_zero}
-use Rattle.algebraic.proofs.Codes.{code_less, code_ge}
+use Rattle.algebraic.proofs.Orderings.{ge_true, ge_false}
 use Rattle.algebraic.proofs.digits.floor_by_digits.Goals as goal
 
 -- the digit that a turn looks at, as the code has it
@@ -23,43 +26,44 @@ bit d h l =
     let small : 2 ^ (d - 1) ≤ 2 ^ 52 = pow_mono (let z : d - 1 ≤ 52 = omega arith in z) in
     record { is = e; twice = ap (λ (x : ℕ). 2 ^ x) e ∙ pow-succ' 2 (d - 1); shifted = omega arith }
 
+-- the test of the turn
+tested : (real : Real) (n s t : ℕ) (r : Ordering) (g b : Bool) → r ≡ ordering_of (real (n + s)) → s ≡ t → g ≡ is_ge r → g ≡ b
+    → is_ge (ordering_of (real (n + t))) ≡ b
+tested real n s t r g b e f h k = cc
+
 done : (real : Real) (n : ℕ) → n ≡ floor_from real 0 n
 unfolding floor_from
 done real n = refl
 
 pub loop-d-init : goal.loop-d-init
-loop-d-init c = (omega arith, omega arith, refl)
+loop-d-init c = (omega arith, refl)
 
 pub overflow_add-t : goal.overflow_add-t
-overflow_add-t c = omega (arith, (bit c.loop-d.d c.loop-d-test.true c.loop-d.invariant.0).shifted, (bit c.loop-d.d c.loop-d-test.true c.loop-d.invariant.0).twice)
+overflow_add-t c = omega (arith, (bit c.loop-d.d c.loop-d-test.true c.loop-d.auto.d).shifted, (bit c.loop-d.d c.loop-d-test.true c.loop-d.auto.d).twice)
 
 pub compared-requires : goal.compared-requires
 compared-requires c =
-    (c.requires, omega (arith, (bit c.loop-d.d c.loop-d-test.true c.loop-d.invariant.0).shifted, (bit c.loop-d.d c.loop-d-test.true c.loop-d.invariant.0).twice, pow_pos (c.loop-d.d - 1)))
+    (c.requires, omega (arith, (bit c.loop-d.d c.loop-d-test.true c.loop-d.auto.d).shifted, (bit c.loop-d.d c.loop-d-test.true c.loop-d.auto.d).twice, pow_pos (c.loop-d.d - 1)))
 
-pub loop-d-preserved-then-compared-ne0 : goal.loop-d-preserved-then-compared-ne0
-loop-d-preserved-then-compared-ne0 c =
+pub loop-d-preserved-then-is_ge : goal.loop-d-preserved-then-is_ge
+loop-d-preserved-then-is_ge c =
     let l = c.loop-d in
-    let b = bit c.loop-d.d c.loop-d-test.true c.loop-d.invariant.0 in
+    let b = bit c.loop-d.d c.loop-d-test.true c.loop-d.auto.d in
     rw b.shifted (
-      omega arith,
       omega (arith, b.twice),
       sym (digit_one (real_of c.args.c) (l.d - 1) l.n
-          (code_ge (real_of c.args.c (l.n + 2 ^ (l.d - 1))) c.compared.result
-          (c.compared.ensures ∙ ap (λ (x : ℕ). code (real_of c.args.c (l.n + x))) b.shifted)
-          c.if-compared-ne0.true)) ∙ ap (λ (x : ℕ). floor_from (real_of c.args.c) x l.n) (sym b.is) ∙ l.invariant.2,
+          (ge_true (real_of c.args.c (l.n + 2 ^ (l.d - 1)))
+          (tested (real_of c.args.c) l.n _ _ _ _ _ c.compared.ensures b.shifted c.is_ge.ensures c.if-is_ge.true))) ∙ ap (λ (x : ℕ). floor_from (real_of c.args.c) x l.n) (sym b.is) ∙ l.invariant.1,
     )
 
 pub loop-d-preserved : goal.loop-d-preserved
 loop-d-preserved c =
     let l = c.loop-d in
-    let b = bit c.loop-d.d c.loop-d-test.true c.loop-d.invariant.0 in (
-      omega arith,
+    let b = bit c.loop-d.d c.loop-d-test.true c.loop-d.auto.d in (
       omega (arith, b.twice),
       sym (digit_zero (real_of c.args.c) (l.d - 1) l.n
-          (code_less (real_of c.args.c (l.n + 2 ^ (l.d - 1))) c.compared.result
-          (c.compared.ensures ∙ ap (λ (x : ℕ). code (real_of c.args.c (l.n + x))) b.shifted)
-          c.if-compared-ne0.false)) ∙ ap (λ (x : ℕ). floor_from (real_of c.args.c) x l.n) (sym b.is) ∙ l.invariant.2,
+          (ge_false (real_of c.args.c (l.n + 2 ^ (l.d - 1)))
+          (tested (real_of c.args.c) l.n _ _ _ _ _ c.compared.ensures b.shifted c.is_ge.ensures c.if-is_ge.false))) ∙ ap (λ (x : ℕ). floor_from (real_of c.args.c) x l.n) (sym b.is) ∙ l.invariant.1,
     )
 
 pub returns : goal.returns
@@ -68,5 +72,5 @@ returns c =
     let z : l.d ≡ 0 = omega arith in (
       omega (arith, ap (λ (x : ℕ). 2 ^ x) z),
       done (real_of c.args.c) l.n
-          ∙ ap (λ (x : ℕ). floor_from (real_of c.args.c) x l.n) (sym z) ∙ l.invariant.2,
+          ∙ ap (λ (x : ℕ). floor_from (real_of c.args.c) x l.n) (sym z) ∙ l.invariant.1,
     )

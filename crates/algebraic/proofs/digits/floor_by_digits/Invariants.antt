@@ -6,7 +6,5 @@ use Rattle.algebraic.specs.Reals.{real_of}
 use Rattle.algebraic.proofs.digits.floor_by_digits.Given as goal
 
 abbrev pub invariant-loop-d : goal.invariant-loop-d
-invariant-loop-d l = (l.d ≤ 53) × (l.n + 2 ^ l.d ≤ 2 ^ 54) × (floor_from (real_of l.c) l.d l.n ≡ floor_from (real_of l.c) 53 (2 ^ 53))
-
-abbrev pub decreases-loop-d : goal.decreases-loop-d
-decreases-loop-d l = l.d
+invariant-loop-d l =
+    (l.n + 2 ^ l.d ≤ 2 ^ 54) × (floor_from (real_of l.c) l.d l.n ≡ floor_from (real_of l.c) 53 (2 ^ 53))
