@@ -6,7 +6,7 @@ ghost use Rattle.profile_test.specs.Records.{checked_of};
 
 use encoding::{byte_at, double_at};
 use profile::{ControlSigns, Limits, Profile, ReachedLimits, Start, Target};
-use profile_check::{Checked, check};
+use profile_check::check;
 
 fn limits_of(n: usize) -> ReachedLimits
     ensures { result ≡ limits_of n }
@@ -84,7 +84,7 @@ fn bounds_of(bytes: &[u8; 147]) -> Limits
 }
 
 // What `check` answers.
-pub fn checked_of(bytes: &[u8; 147]) -> Checked
+pub fn checked_of(bytes: &[u8; 147]) -> Option<Profile>
     ensures { result ≡ checked_of bytes.now }
 {
     let signs = control_signs_of(byte_at(bytes, 145));
