@@ -1,4 +1,4 @@
--- `angle::size_of` meets its contract. Assumes nothing.
+-- `angle::pattern::Pattern::size` meets its contract. Assumes nothing.
 use mathlib.Core.Path.{◌≡◌, sym, ap, ◌∙◌}
 use Prim.Native.Nat.{ℕ, ◌+◌, ◌-◌, ◌*◌, ◌/◌, ◌%◌, ◌^◌, ◌≤◌, ◌<◌}
 use native.Mathlib.Nat.{div-add-mod', mul_assoc, add-zero, mod-eq_of_lt, lt_of_lt_of_le, le_trans, le_of_eq}
@@ -7,7 +7,7 @@ use native.Mathlib.Omega.{arith}
 use lib.Bits.{and_mask}
 use lib.Pow.{pow_pos, pow-add, pow_mono}
 use Rattle.words.proofs.WideLaws.{upper_part}
-use Rattle.angle.proofs.size_of.Goals as goal
+use Rattle.angle.proofs.pattern.Pattern.size.Goals as goal
 
 split : (n y : ℕ) → y < 64 → n / 2 ^ (64 - y) * 2 ^ 64 + n * 2 ^ y % 2 ^ 64 ≡ n * 2 ^ y
 split n y h =
@@ -26,14 +26,14 @@ above n y h l g =
     (sym (pow-add 2 (y - 64) 64) ∙ ap (λ (x : ℕ). 2 ^ x) (let z : y - 64 + 64 ≡ y = omega arith in z))
 
 pub overflow_add-significand : goal.overflow_add-significand
-overflow_add-significand c = omega (arith, and_mask c.args.m 52)
+overflow_add-significand c = omega (arith, and_mask c.args.self.m 52)
 
 pub returns-then-shift-lt64 : goal.returns-then-shift-lt64
-returns-then-shift-lt64 c = rw (and_mask c.args.m 52)
-    (split (c.args.m % 2 ^ 52 + 2 ^ 52) (c.args.m / 2 ^ 52 - 947) c.if-shift-lt64.true)
+returns-then-shift-lt64 c = rw (and_mask c.args.self.m 52)
+    (split (c.args.self.m % 2 ^ 52 + 2 ^ 52) (c.args.self.m / 2 ^ 52 - 947) c.if-shift-lt64.true)
 
 pub returns-else-shift-lt64 : goal.returns-else-shift-lt64
 returns-else-shift-lt64 c =
-    rw (and_mask c.args.m 52)
-    (above (c.args.m % 2 ^ 52 + 2 ^ 52) (c.args.m / 2 ^ 52 - 947) (omega arith) c.if-shift-lt64.false
+    rw (and_mask c.args.self.m 52)
+    (above (c.args.self.m % 2 ^ 52 + 2 ^ 52) (c.args.self.m / 2 ^ 52 - 947) (omega arith) c.if-shift-lt64.false
     (omega arith))
