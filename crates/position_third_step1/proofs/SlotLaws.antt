@@ -30,20 +30,12 @@ use Rattle.position_third_step1.specs.declared.families.Shared.{Shared}
 pub last_of_2 : (i : ℕ) → i < 2 → ¬ (i ≡ 0) → i ≡ 1
 last_of_2 i h n0 = omega (arith, n0)
 
-pub last_of_4 : (i : ℕ) → i < 4 → ¬ (i ≡ 0) → ¬ (i ≡ 1) → ¬ (i ≡ 2) → i ≡ 3
-last_of_4 i h n0 n1 n2 = omega (arith, n0, n1, n2)
-
 -- ---- times that are always tried
 pub always_holds : (ts : List (List Float)) (i : ℕ) → i < length (always ts) → true ≡ (slot_at (always ts) i).0
 unfolding always
 always_holds [] i h = absurd (let none : ⊥ = omega arith in none)
 always_holds (t ∷ ts) zero h = refl
 always_holds (t ∷ ts) (suc i) h = always_holds ts i (omega arith)
-
-pub always_one : (t : List Float) (i : ℕ) → i < length (always (t ∷ [])) → t ≡ (slot_at (always (t ∷ [])) i).1
-unfolding always
-always_one t zero h = refl
-always_one t (suc i) h = absurd (let none : ⊥ = omega arith in none)
 
 -- ---- a slot for each root
 module _ (range : RootRange) (times : Float → List Float) where
@@ -72,27 +64,6 @@ module _ (range : RootRange) (times : Float → List Float) where
     root_times e et h =
         et ∙ ap times (e (within h)) ∙ ap (λ (s : Slot). s.1) (sym (root_slot ts i (within h)))
 
--- ---- the roots of a list that has room for four
-module _ (l : Roots) where
-  pub count_below : length l.values ≡ 4 → l.count < 4 → l.count ≡ length (roots_of l)
-  count_below four h = simp length-take (omega arith)
-
-  pub count_full : length l.values ≡ 4 → 4 ≤ l.count → 4 ≡ length (roots_of l)
-  count_full four h = simp length-take (omega arith)
-
-  counted : (i : ℕ) → i < length (roots_of l) → i < l.count
-  counted i h = omega (arith, h, length-take l.count l.values)
-
-  pub root_is : (i j : ℕ) → i ≡ j → i < length (roots_of l) → at l.values j ≡ at (roots_of l) i
-  root_is i j e h = rw (← e) (sym (get_or-take l.count l.values i nan (counted i h)))
-
-  pub root_is_last : (i : ℕ) → length l.values ≡ 4 → ¬ (i ≡ 0) → ¬ (i ≡ 1) → ¬ (i ≡ 2)
-      → i < length (roots_of l) → at l.values 3 ≡ at (roots_of l) i
-  root_is_last i four n0 n1 n2 h = root_is i 3 (last_of_4 i below n0 n1 n2) h
-    where
-      below : i < 4
-      below = omega (arith, h, four, length-take l.count l.values)
-
 -- ---- a row known slot by slot
 pub first_of_two : {xs : List Slot} {x y : Slot} {i : ℕ} → xs ≡ x ∷ y ∷ [] → i ≡ 0 → slot_at xs i ≡ x
 first_of_two e z = rw (e, z)
@@ -111,26 +82,11 @@ only_one {xs} i e h = rw (e, first (ap length e))
     first one = omega (arith, h)
 
 -- conditions under which there are slots
-if_some : (b : Bool) (xs : List Slot) (i : ℕ) → i < length (cond b xs []) → b ≡ true
-if_some true xs i h = refl
-if_some false xs i h = absurd (let none : ⊥ = omega arith in none)
-
 if_none : (b : Bool) (xs : List Slot) (i : ℕ) → i < length (cond b [] xs) → b ≡ false
 if_none true xs i h = absurd (let none : ⊥ = omega arith in none)
 if_none false xs i h = refl
 
-one_either : (b : Bool) (x y : Slot) → 1 ≡ length (cond b (x ∷ []) (y ∷ []))
-one_either true x y = refl
-one_either false x y = refl
-
 -- ---- where there are slots, which
-pub solution_slots : (start : Start) (target : Target) (m : Limits) (s : Shared) (i : ℕ)
-    → i < length (acc0_acc1_slots start target m s)
-    → acc0_acc1_slots start target m s ≡ acc0_acc1_solutions start target m s.h1 s.h2 s.h3
-unfolding acc0_acc1_slots
-solution_slots start target m s i h =
-    rw (if_some (0ᶠ ≤ᶠ s.h0) (acc0_acc1_solutions start target m s.h1 s.h2 s.h3) i h)
-
 module _ (start : Start) (target : Target) (k : Constants) (s : Shared) where
   abbrev unchanged_slots : List Slot
   unchanged_slots =
@@ -157,13 +113,6 @@ module _ (start : Start) (target : Target) (k : Constants) (s : Shared) where
       → single_step_slots start target k s ≡ (starts_at_target k, zero_times) ∷ []
   unfolding single_step_slots
   resting_slots i a m h = rw (unchanged i h, a, m)
-
-  -- without acceleration there is one
-  pub one_slot : changes_acceleration start target ≡ false → starts_accelerated start ≡ false
-      → 1 ≡ length (single_step_slots start target k s)
-  unfolding single_step_slots
-  one_slot u a =
-      rw (u, a) (one_either (starts_moving start) (true, times_at_constant_speed start k) (starts_at_target k, zero_times))
 
   -- with acceleration a slot's times say whether it holds a try
   pub held_by_times : (i : ℕ) → starts_accelerated start ≡ true → i < length (single_step_slots start target k s)

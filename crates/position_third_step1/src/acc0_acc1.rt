@@ -13,6 +13,7 @@ use phase_times::time_acc0_acc1::{
 use profile::{Limits, Start, Target};
 use sqrt::sqrt;
 
+#[tactic(auto, unfolding(crate::specs::TimeAcc0Acc1::acc0_acc1_shared))]
 pub fn acc0_acc1_shared(start: Start, target: Target, k: Constants, m: Limits) -> Shared
     ensures { result ≡ acc0_acc1_shared start target k m }
 {
@@ -24,6 +25,7 @@ pub fn acc0_acc1_shared(start: Start, target: Target, k: Constants, m: Limits) -
 }
 
 // None for a radicand below 0, or a NaN.
+#[tactic(auto, unfolding(crate::specs::TimeAcc0Acc1::acc0_acc1_slots))]
 pub fn acc0_acc1_count(start: Start, target: Target, m: Limits, s: Shared) -> usize
     ensures { result ≡ length (acc0_acc1_slots start target m s) }
 {
@@ -31,20 +33,22 @@ pub fn acc0_acc1_count(start: Start, target: Target, m: Limits, s: Shared) -> us
 }
 
 // Where the guard of the solution admits it.
+#[tactic(auto, unfolding(crate::specs::TimeAcc0Acc1::acc0_acc1_slots))]
 pub fn acc0_acc1_holds(start: Start, target: Target, m: Limits, s: Shared, i: usize) -> bool
     ensures { i < length (acc0_acc1_slots start target m s) → result ≡ (slot_at (acc0_acc1_slots start target m s) i).0 }
 {
-    if i == 0 {
-        return admits_acc0_acc1_solution_2(m, s.h1, s.h2, s.h3);
+    match i {
+        0 => admits_acc0_acc1_solution_2(m, s.h1, s.h2, s.h3),
+        _ => admits_acc0_acc1_solution_1(m, s.h1, s.h2, s.h3),
     }
-    admits_acc0_acc1_solution_1(m, s.h1, s.h2, s.h3)
 }
 
+#[tactic(auto, unfolding(crate::specs::TimeAcc0Acc1::acc0_acc1_slots))]
 pub fn acc0_acc1_times(start: Start, target: Target, m: Limits, s: Shared, i: usize) -> [f64; 7]
     ensures { i < length (acc0_acc1_slots start target m s) → result ≡ (slot_at (acc0_acc1_slots start target m s) i).1 }
 {
-    if i == 0 {
-        return times_acc0_acc1_solution_2(start, target, m, s.h1, s.h2, s.h3);
+    match i {
+        0 => times_acc0_acc1_solution_2(start, target, m, s.h1, s.h2, s.h3),
+        _ => times_acc0_acc1_solution_1(start, target, m, s.h1, s.h2, s.h3),
     }
-    times_acc0_acc1_solution_1(start, target, m, s.h1, s.h2, s.h3)
 }

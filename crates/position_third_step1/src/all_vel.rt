@@ -19,6 +19,7 @@ pub fn t_acc1(target: Target, k: Constants, m: Limits) -> f64
     sqrt(t_acc1_radicand(target, k, m))
 }
 
+#[tactic(auto, unfolding(crate::specs::TimeAllVel::all_vel_shared))]
 pub fn all_vel_shared(start: Start, target: Target, k: Constants, m: Limits) -> Shared
     ensures { result ≡ all_vel_shared start target k m }
 {
@@ -28,6 +29,7 @@ pub fn all_vel_shared(start: Start, target: Target, k: Constants, m: Limits) -> 
 }
 
 // The second and the fourth keep phases 4 to 6 of the try before them.
+#[tactic(auto, unfolding(crate::specs::TimeAllVel::all_vel_slots, crate::specs::Slots::always))]
 pub fn all_vel_times(
     start: Start,
     target: Target,
@@ -38,16 +40,16 @@ pub fn all_vel_times(
 ) -> [f64; 7]
     ensures { i < length (all_vel_slots start target k m s) → result ≡ (slot_at (all_vel_slots start target k m s) i).1 }
 {
-    if i == 0 {
-        return times_acc0_acc1_vel(start, target, k, m);
+    match i {
+        0 => times_acc0_acc1_vel(start, target, k, m),
+        1 => {
+            let first = times_acc0_acc1_vel(start, target, k, m);
+            times_acc1_vel(start, target, k, m, s.h0, first)
+        }
+        2 => times_acc0_vel(start, target, k, m, s.h1),
+        _ => {
+            let third = times_acc0_vel(start, target, k, m, s.h1);
+            times_vel(start, target, k, m, s.h0, s.h1, third)
+        }
     }
-    if i == 1 {
-        let first = times_acc0_acc1_vel(start, target, k, m);
-        return times_acc1_vel(start, target, k, m, s.h0, first);
-    }
-    if i == 2 {
-        return times_acc0_vel(start, target, k, m, s.h1);
-    }
-    let third = times_acc0_vel(start, target, k, m, s.h1);
-    times_vel(start, target, k, m, s.h0, s.h1, third)
 }

@@ -6,7 +6,8 @@ ghost use Rattle.position_third_step1.specs.Slots.{numbers};
 use phase_times_quartic::root_range::RootRange;
 use roots::Roots;
 
-// What is tried in a stage of a search. `time_all_none_acc0_acc1` is three, one for each polynomial.
+// What is tried in a stage of a search. `time_all_none_acc0_acc1` is three, one for each polynomial. The Rust has these
+// and no more, and the search holds one at a time: an enum, not a trait with a type for each.
 #[derive(Clone, Copy)]
 pub enum Family {
     AllVel,
@@ -35,6 +36,7 @@ pub struct Shared {
 
 impl Shared {
     // Without roots.
+    #[tactic(auto, unfolding(crate::specs::Slots::numbers))]
     pub fn numbers(h0: f64, h1: f64, h2: f64, h3: f64) -> Shared
         ensures { result ≡ numbers h0 h1 h2 h3 }
     {

@@ -25,6 +25,7 @@ use profile::{Limits, Start, Target};
 use roots::{Roots, solve_quart_monic_coeffs};
 
 // The roots in ascending order, if there is a solution.
+#[tactic(auto, unfolding(crate::specs::TimeAllNoneAcc0Acc1::roots_if))]
 fn roots_if(has_solution: bool, q: Quartic) -> Roots
     ensures { result ≡ roots_if has_solution q }
 {
@@ -35,6 +36,7 @@ fn roots_if(has_solution: bool, q: Quartic) -> Roots
     }
 }
 
+#[tactic(auto, unfolding(crate::specs::TimeAllNoneAcc0Acc1::none_shared))]
 pub fn none_shared(start: Start, target: Target, k: Constants, m: Limits) -> Shared
     ensures { result ≡ none_shared start target k m }
 {
@@ -51,6 +53,7 @@ pub fn none_shared(start: Start, target: Target, k: Constants, m: Limits) -> Sha
     }
 }
 
+#[tactic(auto, unfolding(crate::specs::TimeAllNoneAcc0Acc1::acc0_shared))]
 pub fn acc0_shared(start: Start, target: Target, k: Constants, m: Limits) -> Shared
     ensures { result ≡ acc0_shared start target k m }
 {
@@ -70,6 +73,7 @@ pub fn acc0_shared(start: Start, target: Target, k: Constants, m: Limits) -> Sha
     }
 }
 
+#[tactic(auto, unfolding(crate::specs::TimeAllNoneAcc0Acc1::acc1_shared))]
 pub fn acc1_shared(start: Start, target: Target, k: Constants, m: Limits) -> Shared
     ensures { result ≡ acc1_shared start target k m }
 {
@@ -93,35 +97,27 @@ pub fn acc1_shared(start: Start, target: Target, k: Constants, m: Limits) -> Sha
 pub fn root_count(s: Shared) -> usize
     ensures { result ≡ length (roots_of s.roots) }
 {
-    let roots = s.roots;
-    let count = roots.count;
-    if count < 4 { count } else { 4 }
+    s.roots.count.min(4)
 }
 
 // The root i, by constant indices, so that the list needs no memory.
 fn root_at(s: Shared, i: usize) -> f64
     ensures { i < length (roots_of s.roots) → result ≡ at (roots_of s.roots) i }
 {
-    let roots = s.roots;
-    let values = roots.values;
-    if i == 0 {
-        return values[0];
+    let values = s.roots.values;
+    match i {
+        0 => values[0],
+        1 => values[1],
+        2 => values[2],
+        _ => values[3],
     }
-    if i == 1 {
-        return values[1];
-    }
-    if i == 2 {
-        return values[2];
-    }
-    values[3]
 }
 
 // Whether the root i isn't skipped.
 pub fn root_holds(s: Shared, i: usize) -> bool
     ensures { i < length (roots_of s.roots) → result ≡ root_holds s i }
 {
-    let range = s.range;
-    !range.skips(root_at(s, i))
+    !s.range.skips(root_at(s, i))
 }
 
 pub fn none_times(

@@ -14,12 +14,14 @@ use phase_times::time_all_single_step::{
 use profile::{Start, Target};
 use sqrt::sqrt;
 
+#[tactic(auto, unfolding(crate::specs::TimeAllSingleStep::single_step_shared))]
 pub fn single_step_shared(start: Start, k: Constants) -> Shared
     ensures { result ≡ single_step_shared start k }
 {
     Shared::numbers(sqrt(single_step_radicand(start, k)), 0.0, 0.0, 0.0)
 }
 
+#[tactic(auto, unfolding(crate::specs::TimeAllSingleStep::single_step_slots))]
 pub fn single_step_count(start: Start, target: Target, k: Constants, s: Shared) -> usize
     ensures { result ≡ length (single_step_slots start target k s) }
 {

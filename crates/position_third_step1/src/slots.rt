@@ -1,4 +1,5 @@
-// The slots of any family: how many it has, which hold a try, and the times of one that does.
+// The slots of any family: how many it has, which hold a try, and the times of one that does. Start, target, constants
+// and limits go in one by one, as the Rust's functions and document 01's contracts name them.
 
 ghost use Rattle.std.specs.Prelude.{◌≡◌, ◌<◌, length};
 ghost use Rattle.position_third_step1.specs.Slots.{slot_at};
@@ -24,6 +25,7 @@ use phase_times_two_step::time_acc1_vel_two_step::times_acc1_vel_two_step;
 use profile::{Limits, ReachedLimits, Start, Target};
 
 // What the tries of a family share.
+#[tactic(auto, unfolding(crate::specs::Families::shared_of))]
 pub fn shared(family: Family, start: Start, target: Target, k: Constants, m: Limits) -> Shared
     ensures { result ≡ shared_of start target k m family }
 {
@@ -34,14 +36,14 @@ pub fn shared(family: Family, start: Start, target: Target, k: Constants, m: Lim
         Family::Acc1 => acc1_shared(start, target, k, m),
         Family::Acc0Acc1 => acc0_acc1_shared(start, target, k, m),
         Family::NoneTwoStep => none_two_step_shared(start, target, k, m),
-        Family::Acc0TwoStep => Shared::numbers(0.0, 0.0, 0.0, 0.0),
         Family::VelTwoStep => vel_two_step_shared(target, k, m),
-        Family::Acc1VelTwoStep => Shared::numbers(0.0, 0.0, 0.0, 0.0),
+        Family::Acc0TwoStep | Family::Acc1VelTwoStep => Shared::numbers(0.0, 0.0, 0.0, 0.0),
         Family::SingleStep => single_step_shared(start, k),
     }
 }
 
 // How many slots a family has: at most four.
+#[tactic(auto, unfolding(crate::specs::Families::slots_of))]
 pub fn slot_count(
     family: Family,
     start: Start,
@@ -53,20 +55,17 @@ pub fn slot_count(
     ensures { result ≡ length (slots_of start target k m family s) }
 {
     match family {
-        Family::AllVel => 4,
-        Family::None => root_count(s),
-        Family::Acc0 => root_count(s),
-        Family::Acc1 => root_count(s),
+        Family::None | Family::Acc0 | Family::Acc1 => root_count(s),
         Family::Acc0Acc1 => acc0_acc1_count(start, target, m, s),
-        Family::NoneTwoStep => 2,
-        Family::Acc0TwoStep => 4,
-        Family::VelTwoStep => 2,
+        Family::AllVel | Family::Acc0TwoStep => 4,
+        Family::NoneTwoStep | Family::VelTwoStep => 2,
         Family::Acc1VelTwoStep => 1,
         Family::SingleStep => single_step_count(start, target, k, s),
     }
 }
 
 // Whether the slot i holds a try.
+#[tactic(auto, unfolding(crate::specs::Families::slots_of))]
 pub fn slot_holds(
     family: Family,
     start: Start,
@@ -79,20 +78,19 @@ pub fn slot_holds(
     ensures { i < length (slots_of start target k m family s) → result ≡ (slot_at (slots_of start target k m family s) i).0 }
 {
     match family {
-        Family::AllVel => true,
-        Family::None => root_holds(s, i),
-        Family::Acc0 => root_holds(s, i),
-        Family::Acc1 => root_holds(s, i),
+        Family::None | Family::Acc0 | Family::Acc1 => root_holds(s, i),
         Family::Acc0Acc1 => acc0_acc1_holds(start, target, m, s, i),
-        Family::NoneTwoStep => true,
-        Family::Acc0TwoStep => true,
-        Family::VelTwoStep => true,
-        Family::Acc1VelTwoStep => true,
         Family::SingleStep => single_step_holds(start, target, k, s, i),
+        Family::AllVel
+        | Family::NoneTwoStep
+        | Family::Acc0TwoStep
+        | Family::VelTwoStep
+        | Family::Acc1VelTwoStep => true,
     }
 }
 
 // The times in the slot i.
+#[tactic(auto, unfolding(crate::specs::Families::slots_of, crate::specs::TwoStep::acc1_vel_two_step_slots, crate::specs::Slots::always))]
 pub fn slot_times(
     family: Family,
     start: Start,
@@ -119,38 +117,28 @@ pub fn slot_times(
 }
 
 // The limit that the tries of a family are named after.
+#[tactic(auto, unfolding(crate::specs::Families::reached_by))]
 fn reached_by(family: Family) -> ReachedLimits
     ensures { result ≡ reached_by family }
 {
     match family {
-        Family::AllVel => ReachedLimits::Vel,
-        Family::None => ReachedLimits::None,
-        Family::Acc0 => ReachedLimits::Acc0,
+        Family::AllVel | Family::VelTwoStep => ReachedLimits::Vel,
+        Family::None | Family::NoneTwoStep | Family::SingleStep => ReachedLimits::None,
+        Family::Acc0 | Family::Acc0TwoStep => ReachedLimits::Acc0,
         Family::Acc1 => ReachedLimits::Acc1,
         Family::Acc0Acc1 => ReachedLimits::Acc0Acc1,
-        Family::NoneTwoStep => ReachedLimits::None,
-        Family::Acc0TwoStep => ReachedLimits::Acc0,
-        Family::VelTwoStep => ReachedLimits::Vel,
         Family::Acc1VelTwoStep => ReachedLimits::Acc1Vel,
-        Family::SingleStep => ReachedLimits::None,
     }
 }
 
 // Their jerk: that of the limits, and 0 on the single-step path.
+#[tactic(auto, unfolding(crate::specs::Families::jerk_by))]
 fn jerk_by(family: Family, m: Limits) -> f64
     ensures { result ≡ jerk_by family m }
 {
     match family {
-        Family::AllVel => m.j_max,
-        Family::None => m.j_max,
-        Family::Acc0 => m.j_max,
-        Family::Acc1 => m.j_max,
-        Family::Acc0Acc1 => m.j_max,
-        Family::NoneTwoStep => m.j_max,
-        Family::Acc0TwoStep => m.j_max,
-        Family::VelTwoStep => m.j_max,
-        Family::Acc1VelTwoStep => m.j_max,
         Family::SingleStep => 0.0,
+        _ => m.j_max,
     }
 }
 
@@ -158,14 +146,12 @@ fn jerk_by(family: Family, m: Limits) -> f64
 pub fn try_by(family: Family, start: Start, target: Target, m: Limits, t: [f64; 7]) -> Try
     ensures { result ≡ try_by start target m family t }
 {
-    let reached = reached_by(family);
-    let jf = jerk_by(family, m);
     Try {
         start,
         target,
         t,
-        reached,
-        jf,
+        reached: reached_by(family),
+        jf: jerk_by(family, m),
         limits: m,
     }
 }

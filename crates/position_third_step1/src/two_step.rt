@@ -20,6 +20,7 @@ use phase_times_two_step::time_vel_two_step::{times_vel_phase_0, times_vel_phase
 use profile::{Limits, Start, Target};
 use sqrt::sqrt;
 
+#[tactic(auto, unfolding(crate::specs::TwoStep::none_two_step_shared))]
 pub fn none_two_step_shared(start: Start, target: Target, k: Constants, m: Limits) -> Shared
     ensures { result ≡ none_two_step_shared start target k m }
 {
@@ -28,13 +29,14 @@ pub fn none_two_step_shared(start: Start, target: Target, k: Constants, m: Limit
 }
 
 // Two step; single step.
+#[tactic(auto, unfolding(crate::specs::TwoStep::none_two_step_slots, crate::specs::Slots::always))]
 pub fn none_two_step_times(start: Start, target: Target, m: Limits, s: Shared, i: usize) -> [f64; 7]
     ensures { i < length (none_two_step_slots start target m s) → result ≡ (slot_at (none_two_step_slots start target m s) i).1 }
 {
-    if i == 0 {
-        return times_none_two_step(start, target, m, s.h0);
+    match i {
+        0 => times_none_two_step(start, target, m, s.h0),
+        _ => times_none_single_step(start, target, m),
     }
-    times_none_single_step(start, target, m)
 }
 
 fn times_removed_a_max(start: Start, target: Target, k: Constants, m: Limits) -> [f64; 7]
@@ -47,6 +49,7 @@ fn times_removed_a_max(start: Start, target: Target, k: Constants, m: Limits) ->
 }
 
 // Two step; three step, removed pf; three step, removed a_max; three step with t = (a_max - a_min) / j_max.
+#[tactic(auto, unfolding(crate::specs::TwoStep::acc0_two_step_slots, crate::specs::Slots::always))]
 pub fn acc0_two_step_times(
     start: Start,
     target: Target,
@@ -56,18 +59,15 @@ pub fn acc0_two_step_times(
 ) -> [f64; 7]
     ensures { i < length (acc0_two_step_slots start target k m) → result ≡ (slot_at (acc0_two_step_slots start target k m) i).1 }
 {
-    if i == 0 {
-        return times_acc0_two_step(start, target, k, m);
+    match i {
+        0 => times_acc0_two_step(start, target, k, m),
+        1 => times_acc0_removed_pf(start, target, k, m),
+        2 => times_removed_a_max(start, target, k, m),
+        _ => times_acc0_to_a_min(start, target, k, m),
     }
-    if i == 1 {
-        return times_acc0_removed_pf(start, target, k, m);
-    }
-    if i == 2 {
-        return times_removed_a_max(start, target, k, m);
-    }
-    times_acc0_to_a_min(start, target, k, m)
 }
 
+#[tactic(auto, unfolding(crate::specs::TwoStep::vel_two_step_shared))]
 pub fn vel_two_step_shared(target: Target, k: Constants, m: Limits) -> Shared
     ensures { result ≡ vel_two_step_shared target k m }
 {
@@ -75,6 +75,7 @@ pub fn vel_two_step_shared(target: Target, k: Constants, m: Limits) -> Shared
 }
 
 // Phase 0 takes the acceleration to 0; phase 2 does.
+#[tactic(auto, unfolding(crate::specs::TwoStep::vel_two_step_slots, crate::specs::Slots::always))]
 pub fn vel_two_step_times(
     start: Start,
     target: Target,
@@ -85,8 +86,8 @@ pub fn vel_two_step_times(
 ) -> [f64; 7]
     ensures { i < length (vel_two_step_slots start target k m s) → result ≡ (slot_at (vel_two_step_slots start target k m s) i).1 }
 {
-    if i == 0 {
-        return times_vel_phase_0(start, target, k, m, s.h1);
+    match i {
+        0 => times_vel_phase_0(start, target, k, m, s.h1),
+        _ => times_vel_phase_2(start, target, k, m, s.h1),
     }
-    times_vel_phase_2(start, target, k, m, s.h1)
 }

@@ -14,4 +14,5 @@ returns-in-Some c =
 pub returns-in_default : goal.returns-in_default
 unfolding placed_at
 returns-in_default c =
-    rw (placed_behind _ _ (sym c.place_of.ensures ∙ c.in_default.is)) (kept c.args.values.now (search rules) c.args.i c.requires)
+    rw (placed_behind _ _ (sym c.place_of.ensures ∙ c.in_default.is))
+    (kept c.args.values.now (search rules) c.args.i c.requires)
