@@ -26,52 +26,46 @@ pub struct Candidates {
 }
 
 // Whether the check accepts a try.
+#[tactic(auto, unfolding(crate::specs::Try::passes))]
 pub fn passes(x: Try) -> bool
     ensures { result ≡ passes x }
 {
-    let start = x.start;
-    let target = x.target;
-    let t = x.t;
-    let reached = x.reached;
-    let limits = x.limits;
     profile_check::accepts(
-        start,
-        target,
-        t,
+        x.start,
+        x.target,
+        x.t,
         ControlSigns::UDDU,
-        reached,
+        x.reached,
         false,
         x.jf,
-        limits,
+        x.limits,
     )
 }
 
 // The profile that the check makes of a try, with these durations.
+#[tactic(auto, unfolding(crate::specs::Try::profile_of, profile::specs::Boundary::with_boundary))]
 pub fn profile_of(brake: f64, accel: f64, x: Try) -> Profile
     ensures { result ≡ profile_of brake accel x }
 {
-    let start = x.start;
-    let target = x.target;
-    let t = x.t;
-    let reached = x.reached;
-    let limits = x.limits;
-    let mut empty = Profile::empty();
-    empty.brake = brake;
-    empty.accel = accel;
-    let boundary = empty.with_boundary(start, target);
+    let empty = Profile {
+        brake,
+        accel,
+        ..Profile::empty()
+    };
     profile_check::filled(
-        boundary,
-        t,
+        empty.with_boundary(x.start, x.target),
+        x.t,
         ControlSigns::UDDU,
-        reached,
+        x.reached,
         false,
         x.jf,
-        limits,
+        x.limits,
     )
 }
 
 impl Candidates {
     // A fresh planner's list.
+    #[tactic(auto, unfolding(crate::specs::List::fresh_list))]
     pub fn new(input: Profile) -> Candidates
         ensures { result ≡ fresh_list input }
     {

@@ -21,6 +21,7 @@ pub struct Constants {
 
 impl Constants {
     // They serve both directions: j_max_j_max is the square of -j_max as well.
+    #[tactic(auto, unfolding(crate::specs::Constants::constants_of))]
     pub fn new(start: Start, target: Target, m: Limits) -> Constants
         ensures { result ≡ constants_of start target m }
     {

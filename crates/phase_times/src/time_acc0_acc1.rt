@@ -1,4 +1,5 @@
-// Phase times of the two solutions of time_acc0_acc1, the numbers h1 to h3 and the guards.
+// Phase times of the two solutions of time_acc0_acc1, the numbers h1 to h3 and the guards: the Rust's formulas line by
+// line, so each solution is written out.
 
 ghost use Rattle.std.specs.Prelude.{◌≡◌};
 ghost use Rattle.phase_times.specs.TimeAcc0Acc1.{acc0_acc1_radicand, acc0_acc1_h1, acc0_acc1_h2, acc0_acc1_h3};
@@ -9,6 +10,7 @@ use crate::constants::Constants;
 use profile::{Limits, Start, Target};
 
 // h1 as the Rust first has it. The family goes on where it is at least 0, so not for a NaN.
+#[tactic(auto, unfolding(crate::specs::TimeAcc0Acc1::acc0_acc1_radicand))]
 pub fn acc0_acc1_radicand(start: Start, target: Target, k: Constants, m: Limits) -> f64
     ensures { result ≡ acc0_acc1_radicand start target k m }
 {
@@ -32,12 +34,14 @@ pub fn acc0_acc1_radicand(start: Start, target: Target, k: Constants, m: Limits)
 }
 
 // h1 from then on; root is the square root of the radicand.
+#[tactic(auto, unfolding(crate::specs::TimeAcc0Acc1::acc0_acc1_h1))]
 pub fn acc0_acc1_h1(root: f64) -> f64
     ensures { result ≡ acc0_acc1_h1 root }
 {
     root / 2.0
 }
 
+#[tactic(auto, unfolding(crate::specs::TimeAcc0Acc1::acc0_acc1_h2))]
 pub fn acc0_acc1_h2(start: Start, k: Constants, m: Limits) -> f64
     ensures { result ≡ acc0_acc1_h2 start k m }
 {
@@ -45,6 +49,7 @@ pub fn acc0_acc1_h2(start: Start, k: Constants, m: Limits) -> f64
         - start.v0 / m.a_max
 }
 
+#[tactic(auto, unfolding(crate::specs::TimeAcc0Acc1::acc0_acc1_h3))]
 pub fn acc0_acc1_h3(target: Target, k: Constants, m: Limits) -> f64
     ensures { result ≡ acc0_acc1_h3 target k m }
 {
@@ -53,18 +58,21 @@ pub fn acc0_acc1_h3(target: Target, k: Constants, m: Limits) -> f64
 }
 
 // The guards of both solutions are strict: phases 1 and 5 take time.
+#[tactic(auto, unfolding(crate::specs::TimeAcc0Acc1::admits_acc0_acc1_solution2))]
 pub fn admits_acc0_acc1_solution_2(m: Limits, h1: f64, h2: f64, h3: f64) -> bool
     ensures { result ≡ admits_acc0_acc1_solution2 m h1 h2 h3 }
 {
     (h2 > h1 / m.a_max) & (h3 > -h1 / m.a_min)
 }
 
+#[tactic(auto, unfolding(crate::specs::TimeAcc0Acc1::admits_acc0_acc1_solution1))]
 pub fn admits_acc0_acc1_solution_1(m: Limits, h1: f64, h2: f64, h3: f64) -> bool
     ensures { result ≡ admits_acc0_acc1_solution1 m h1 h2 h3 }
 {
     (h2 > -h1 / m.a_max) & (h3 > h1 / m.a_min)
 }
 
+#[tactic(auto, unfolding(crate::specs::TimeAcc0Acc1::times_acc0_acc1_solution2))]
 pub fn times_acc0_acc1_solution_2(
     start: Start,
     target: Target,
@@ -84,6 +92,7 @@ pub fn times_acc0_acc1_solution_2(
     [t0, t1, t2, 0.0, t4, t5, t6]
 }
 
+#[tactic(auto, unfolding(crate::specs::TimeAcc0Acc1::times_acc0_acc1_solution1))]
 pub fn times_acc0_acc1_solution_1(
     start: Start,
     target: Target,

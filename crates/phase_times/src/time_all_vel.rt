@@ -8,6 +8,7 @@ use crate::constants::Constants;
 use profile::{Limits, Start, Target};
 
 // t_acc0 is the square root of it.
+#[tactic(auto, unfolding(crate::specs::TimeAllVel::t_acc0_radicand))]
 pub fn t_acc0_radicand(start: Start, k: Constants, m: Limits) -> f64
     ensures { result ≡ t_acc0_radicand start k m }
 {
@@ -15,12 +16,14 @@ pub fn t_acc0_radicand(start: Start, k: Constants, m: Limits) -> f64
 }
 
 // t_acc1 is the square root of it, and so is h1 of time_vel_two_step.
+#[tactic(auto, unfolding(crate::specs::TimeAllVel::t_acc1_radicand))]
 pub fn t_acc1_radicand(target: Target, k: Constants, m: Limits) -> f64
     ensures { result ≡ t_acc1_radicand target k m }
 {
     k.af_af / (2.0 * k.j_max_j_max) + (m.v_max - target.vf) / m.j_max
 }
 
+#[tactic(auto, unfolding(crate::specs::TimeAllVel::t3_acc0_acc1_vel))]
 fn t3_acc0_acc1_vel(start: Start, target: Target, k: Constants, m: Limits) -> f64
     ensures { result ≡ t3_acc0_acc1_vel start target k m }
 {
@@ -44,6 +47,7 @@ fn t3_acc0_acc1_vel(start: Start, target: Target, k: Constants, m: Limits) -> f6
 }
 
 // ACC0_ACC1_VEL.
+#[tactic(auto, unfolding(crate::specs::TimeAllVel::times_acc0_acc1_vel))]
 pub fn times_acc0_acc1_vel(start: Start, target: Target, k: Constants, m: Limits) -> [f64; 7]
     ensures { result ≡ times_acc0_acc1_vel start target k m }
 {
@@ -67,6 +71,7 @@ pub fn times_acc0_acc1_vel(start: Start, target: Target, k: Constants, m: Limits
 }
 
 // ACC1_VEL: phases 4 to 6 stay as the try before, ACC0_ACC1_VEL, left them.
+#[tactic(auto, unfolding(crate::specs::TimeAllVel::times_acc1_vel))]
 pub fn times_acc1_vel(
     start: Start,
     target: Target,
@@ -101,6 +106,7 @@ pub fn times_acc1_vel(
 }
 
 // ACC0_VEL.
+#[tactic(auto, unfolding(crate::specs::TimeAllVel::times_acc0_vel))]
 pub fn times_acc0_vel(
     start: Start,
     target: Target,
@@ -130,6 +136,7 @@ pub fn times_acc0_vel(
 }
 
 // VEL: phases 4 to 6 stay as the try before, ACC0_VEL, left them.
+#[tactic(auto, unfolding(crate::specs::TimeAllVel::times_vel))]
 pub fn times_vel(
     start: Start,
     target: Target,

@@ -10,6 +10,7 @@ use phase_times::constants::Constants;
 use profile::{Limits, Start};
 
 // As the Rust computes it before each of the three corrections.
+#[tactic(auto, unfolding(crate::specs::CorrectionAcc1::orig_acc1))]
 fn orig_acc1(start: Start, k: Constants, m: Limits, h0_acc1: f64, t: f64) -> f64
     ensures { result ≡ orig_acc1 start k m h0_acc1 t }
 {
@@ -24,6 +25,7 @@ fn orig_acc1(start: Start, k: Constants, m: Limits, h0_acc1: f64, t: f64) -> f64
         / m.j_max
 }
 
+#[tactic(auto, unfolding(crate::specs::CorrectionAcc1::deriv_acc1))]
 fn deriv_acc1(start: Start, m: Limits, h2_acc1: f64, t: f64) -> f64
     ensures { result ≡ deriv_acc1 start m h2_acc1 t }
 {
@@ -32,6 +34,7 @@ fn deriv_acc1(start: Start, m: Limits, h2_acc1: f64, t: f64) -> f64
 }
 
 // The only correction that t bounds: it leaves no negative root, and 0 for a NaN.
+#[tactic(auto, unfolding(crate::specs::CorrectionAcc1::first_correction_acc1))]
 fn first_correction_acc1(
     start: Start,
     k: Constants,
@@ -47,6 +50,7 @@ fn first_correction_acc1(
     t - doubles::min(orig / deriv, t)
 }
 
+#[tactic(auto, unfolding(crate::specs::CorrectionAcc1::third_correction_acc1))]
 fn third_correction_acc1(
     start: Start,
     k: Constants,
@@ -66,6 +70,7 @@ fn third_correction_acc1(
 }
 
 // With the third, which is tried only after it.
+#[tactic(auto, unfolding(crate::specs::CorrectionAcc1::second_correction_acc1))]
 fn second_correction_acc1(
     start: Start,
     k: Constants,
@@ -86,6 +91,7 @@ fn second_correction_acc1(
 }
 
 // A root above EPSILON is corrected once to three times.
+#[tactic(auto, unfolding(crate::specs::CorrectionAcc1::corrected_acc1))]
 pub fn corrected_acc1(
     start: Start,
     k: Constants,

@@ -13,6 +13,7 @@ pub struct Quartic {
 
 impl Quartic {
     // With t as its zero: polynom_acc0_min of polynom_acc0 and t_min_acc0.
+    #[tactic(auto, unfolding(crate::specs::Quartic::shifted_quartic))]
     pub fn shifted(self, t: f64) -> Quartic
         ensures { result ≡ shifted_quartic self t }
     {
@@ -25,6 +26,7 @@ impl Quartic {
     }
 
     // Whether a root of at least 0 is possible. A coefficient that is a NaN does not say so.
+    #[tactic(auto, unfolding(crate::specs::Quartic::has_solution))]
     pub fn has_solution(self) -> bool
         ensures { result ≡ has_solution self }
     {

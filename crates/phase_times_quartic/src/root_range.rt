@@ -11,6 +11,7 @@ pub struct RootRange {
 
 impl RootRange {
     // Whether the root t is passed over. A bound that is a NaN keeps it, so the comparison is not to be turned round.
+    #[tactic(auto, unfolding(crate::specs::RootRange::is_skipped))]
     pub fn skips(self, t: f64) -> bool
         ensures { result ≡ is_skipped self t }
     {

@@ -10,6 +10,7 @@ use doubles::EPSILON;
 use phase_times::constants::Constants;
 use profile::{Limits, Start, Target};
 
+#[tactic(auto, unfolding(crate::specs::TimeAcc0::h0_acc0))]
 pub fn h0_acc0(start: Start, target: Target, k: Constants, m: Limits) -> f64
     ensures { result ≡ h0_acc0 start target k m }
 {
@@ -24,18 +25,21 @@ pub fn h0_acc0(start: Start, target: Target, k: Constants, m: Limits) -> f64
                 - m.a_max * m.a_max * (target.vf - start.v0))
 }
 
+#[tactic(auto, unfolding(crate::specs::TimeAcc0::h3_acc0))]
 pub fn h3_acc0(start: Start, target: Target, k: Constants, m: Limits) -> f64
     ensures { result ≡ h3_acc0 start target k m }
 {
     (k.a0_a0 - k.af_af) / (2.0 * m.a_max * m.j_max) + (target.vf - start.v0) / m.a_max
 }
 
+#[tactic(auto, unfolding(crate::specs::TimeAcc0::h2_acc0))]
 pub fn h2_acc0(target: Target, k: Constants, m: Limits) -> f64
     ensures { result ≡ h2_acc0 target k m }
 {
     -k.af_af + m.a_max * m.a_max + 2.0 * m.j_max * target.vf
 }
 
+#[tactic(auto, unfolding(crate::specs::TimeAcc0::range_acc0))]
 pub fn range_acc0(target: Target, m: Limits) -> RootRange
     ensures { result ≡ range_acc0 target m }
 {
@@ -45,6 +49,7 @@ pub fn range_acc0(target: Target, m: Limits) -> RootRange
     }
 }
 
+#[tactic(auto, unfolding(crate::specs::TimeAcc0::polynom_acc0))]
 pub fn polynom_acc0(k: Constants, m: Limits, h0_acc0: f64, h2_acc0: f64) -> Quartic
     ensures { result ≡ polynom_acc0 k m h0_acc0 h2_acc0 }
 {
@@ -61,6 +66,7 @@ pub fn polynom_acc0(k: Constants, m: Limits, h0_acc0: f64, h2_acc0: f64) -> Quar
 }
 
 // A single Newton step (regarding pd).
+#[tactic(auto, unfolding(crate::specs::TimeAcc0::newton_acc0))]
 fn newton_acc0(k: Constants, m: Limits, h0_acc0: f64, h2_acc0: f64, t: f64) -> f64
     ensures { result ≡ newton_acc0 k m h0_acc0 h2_acc0 t }
 {
@@ -72,6 +78,7 @@ fn newton_acc0(k: Constants, m: Limits, h0_acc0: f64, h2_acc0: f64, t: f64) -> f
 }
 
 // A root above EPSILON is corrected once.
+#[tactic(auto, unfolding(crate::specs::TimeAcc0::corrected_acc0))]
 pub fn corrected_acc0(k: Constants, m: Limits, h0_acc0: f64, h2_acc0: f64, t: f64) -> f64
     ensures { result ≡ corrected_acc0 k m h0_acc0 h2_acc0 t }
 {
@@ -82,6 +89,7 @@ pub fn corrected_acc0(k: Constants, m: Limits, h0_acc0: f64, h2_acc0: f64, t: f6
     }
 }
 
+#[tactic(auto, unfolding(crate::specs::TimeAcc0::times_acc0))]
 pub fn times_acc0(start: Start, target: Target, m: Limits, h3_acc0: f64, t: f64) -> [f64; 7]
     ensures { result ≡ times_acc0 start target m h3_acc0 t }
 {

@@ -8,6 +8,7 @@ use crate::root_range::RootRange;
 use phase_times::constants::Constants;
 use profile::{Limits, Start, Target};
 
+#[tactic(auto, unfolding(crate::specs::TimeAcc1::h0_acc1))]
 pub fn h0_acc1(start: Start, target: Target, k: Constants, m: Limits) -> f64
     ensures { result ≡ h0_acc1 start target k m }
 {
@@ -22,6 +23,7 @@ pub fn h0_acc1(start: Start, target: Target, k: Constants, m: Limits) -> f64
                 + m.j_max * (k.v0_v0 - k.vf_vf))
 }
 
+#[tactic(auto, unfolding(crate::specs::TimeAcc1::h3_acc1))]
 pub fn h3_acc1(start: Start, target: Target, k: Constants, m: Limits) -> f64
     ensures { result ≡ h3_acc1 start target k m }
 {
@@ -30,12 +32,14 @@ pub fn h3_acc1(start: Start, target: Target, k: Constants, m: Limits) -> f64
         + (target.vf - start.v0) / m.a_min
 }
 
+#[tactic(auto, unfolding(crate::specs::TimeAcc1::h2_acc1))]
 pub fn h2_acc1(start: Start, k: Constants, m: Limits) -> f64
     ensures { result ≡ h2_acc1 start k m }
 {
     k.a0_a0 - start.a0 * m.a_min + 2.0 * m.j_max * start.v0
 }
 
+#[tactic(auto, unfolding(crate::specs::TimeAcc1::polynom_acc1))]
 pub fn polynom_acc1(start: Start, k: Constants, m: Limits, h0_acc1: f64, h2_acc1: f64) -> Quartic
     ensures { result ≡ polynom_acc1 start k m h0_acc1 h2_acc1 }
 {
@@ -48,6 +52,7 @@ pub fn polynom_acc1(start: Start, k: Constants, m: Limits, h0_acc1: f64, h2_acc1
     Quartic { c0, c1, c2, c3 }
 }
 
+#[tactic(auto, unfolding(crate::specs::TimeAcc1::range_acc1))]
 pub fn range_acc1(start: Start, m: Limits) -> RootRange
     ensures { result ≡ range_acc1 start m }
 {
@@ -57,6 +62,7 @@ pub fn range_acc1(start: Start, m: Limits) -> RootRange
     }
 }
 
+#[tactic(auto, unfolding(crate::specs::TimeAcc1::times_acc1))]
 pub fn times_acc1(start: Start, target: Target, m: Limits, h3_acc1: f64, t: f64) -> [f64; 7]
     ensures { result ≡ times_acc1 start target m h3_acc1 t }
 {

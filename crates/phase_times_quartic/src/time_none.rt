@@ -10,12 +10,14 @@ use doubles::EPSILON;
 use phase_times::constants::Constants;
 use profile::{Limits, Start, Target};
 
+#[tactic(auto, unfolding(crate::specs::TimeNone::h2_none))]
 pub fn h2_none(start: Start, target: Target, k: Constants, m: Limits) -> f64
     ensures { result ≡ h2_none start target k m }
 {
     (k.a0_a0 - k.af_af) / (2.0 * m.j_max) + (target.vf - start.v0)
 }
 
+#[tactic(auto, unfolding(crate::specs::TimeNone::polynom_none))]
 pub fn polynom_none(start: Start, target: Target, k: Constants, m: Limits, h2_none: f64) -> Quartic
     ensures { result ≡ polynom_none start target k m h2_none }
 {
@@ -36,6 +38,7 @@ pub fn polynom_none(start: Start, target: Target, k: Constants, m: Limits, h2_no
 }
 
 // A single Newton step (regarding pd).
+#[tactic(auto, unfolding(crate::specs::TimeNone::newton_none))]
 fn newton_none(start: Start, target: Target, k: Constants, m: Limits, h2_none: f64, t: f64) -> f64
     ensures { result ≡ newton_none start target k m h2_none t }
 {
@@ -55,6 +58,7 @@ fn newton_none(start: Start, target: Target, k: Constants, m: Limits, h2_none: f
 }
 
 // A root above EPSILON is corrected once.
+#[tactic(auto, unfolding(crate::specs::TimeNone::corrected_none))]
 pub fn corrected_none(
     start: Start,
     target: Target,
@@ -72,6 +76,7 @@ pub fn corrected_none(
     }
 }
 
+#[tactic(auto, unfolding(crate::specs::TimeNone::range_none))]
 pub fn range_none(start: Start, target: Target, m: Limits) -> RootRange
     ensures { result ≡ range_none start target m }
 {
@@ -81,6 +86,7 @@ pub fn range_none(start: Start, target: Target, m: Limits) -> RootRange
     }
 }
 
+#[tactic(auto, unfolding(crate::specs::TimeNone::times_none))]
 pub fn times_none(start: Start, target: Target, m: Limits, h2_none: f64, t: f64) -> [f64; 7]
     ensures { result ≡ times_none start target m h2_none t }
 {

@@ -6,6 +6,7 @@ ghost use Rattle.phase_times_two_step.specs.ScaledRoot.{scaled_root};
 use profile::Limits;
 
 // Not a choice of sign: the product can overflow, and a j_max of 0 gives a NaN.
+#[tactic(auto, unfolding(crate::specs::ScaledRoot::scaled_root))]
 pub fn scaled_root(m: Limits, root: f64) -> f64
     ensures { result ≡ scaled_root m root }
 {

@@ -9,6 +9,7 @@ use phase_times::constants::Constants;
 use profile::{Limits, Start, Target};
 
 // Two step.
+#[tactic(auto, unfolding(crate::specs::TimeAcc0TwoStep::times_acc0_two_step))]
 pub fn times_acc0_two_step(start: Start, target: Target, k: Constants, m: Limits) -> [f64; 7]
     ensures { result ≡ times_acc0_two_step start target k m }
 {
@@ -19,6 +20,7 @@ pub fn times_acc0_two_step(start: Start, target: Target, k: Constants, m: Limits
 }
 
 // Three step, removed pf.
+#[tactic(auto, unfolding(crate::specs::TimeAcc0TwoStep::times_acc0_removed_pf))]
 pub fn times_acc0_removed_pf(start: Start, target: Target, k: Constants, m: Limits) -> [f64; 7]
     ensures { result ≡ times_acc0_removed_pf start target k m }
 {
@@ -29,6 +31,7 @@ pub fn times_acc0_removed_pf(start: Start, target: Target, k: Constants, m: Limi
     [t0, t1, t2, 0.0, 0.0, 0.0, 0.0]
 }
 
+#[tactic(auto, unfolding(crate::specs::TimeAcc0TwoStep::acc0_removed_a_max_h0))]
 pub fn acc0_removed_a_max_h0(start: Start, target: Target, k: Constants, m: Limits) -> f64
     ensures { result ≡ acc0_removed_a_max_h0 start target k m }
 {
@@ -36,6 +39,7 @@ pub fn acc0_removed_a_max_h0(start: Start, target: Target, k: Constants, m: Limi
 }
 
 // h1 is the square root of it, scaled.
+#[tactic(auto, unfolding(crate::specs::TimeAcc0TwoStep::acc0_removed_a_max_radicand))]
 pub fn acc0_removed_a_max_radicand(
     start: Start,
     target: Target,
@@ -62,6 +66,7 @@ pub fn acc0_removed_a_max_radicand(
 }
 
 // Three step, removed a_max.
+#[tactic(auto, unfolding(crate::specs::TimeAcc0TwoStep::times_acc0_removed_a_max))]
 pub fn times_acc0_removed_a_max(
     start: Start,
     target: Target,
@@ -88,6 +93,7 @@ pub fn times_acc0_removed_a_max(
 }
 
 // Three step, t = (a_max - a_min) / j_max.
+#[tactic(auto, unfolding(crate::specs::TimeAcc0TwoStep::times_acc0_to_a_min))]
 pub fn times_acc0_to_a_min(start: Start, target: Target, k: Constants, m: Limits) -> [f64; 7]
     ensures { result ≡ times_acc0_to_a_min start target k m }
 {

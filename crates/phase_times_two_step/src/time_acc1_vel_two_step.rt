@@ -6,6 +6,7 @@ ghost use Rattle.phase_times_two_step.specs.TimeAcc1VelTwoStep.{times_acc1_vel_t
 use phase_times::constants::Constants;
 use profile::{Limits, Start, Target};
 
+#[tactic(auto, unfolding(crate::specs::TimeAcc1VelTwoStep::times_acc1_vel_two_step))]
 pub fn times_acc1_vel_two_step(start: Start, target: Target, k: Constants, m: Limits) -> [f64; 7]
     ensures { result ≡ times_acc1_vel_two_step start target k m }
 {

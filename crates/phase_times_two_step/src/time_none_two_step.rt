@@ -8,6 +8,7 @@ use phase_times::constants::Constants;
 use profile::{Limits, Start, Target};
 
 // h0 is the square root of it, scaled.
+#[tactic(auto, unfolding(crate::specs::TimeNoneTwoStep::none_two_step_radicand))]
 pub fn none_two_step_radicand(start: Start, target: Target, k: Constants, m: Limits) -> f64
     ensures { result ≡ none_two_step_radicand start target k m }
 {
@@ -15,6 +16,7 @@ pub fn none_two_step_radicand(start: Start, target: Target, k: Constants, m: Lim
 }
 
 // Two step.
+#[tactic(auto, unfolding(crate::specs::TimeNoneTwoStep::times_none_two_step))]
 pub fn times_none_two_step(start: Start, target: Target, m: Limits, h0: f64) -> [f64; 7]
     ensures { result ≡ times_none_two_step start target m h0 }
 {
@@ -24,6 +26,7 @@ pub fn times_none_two_step(start: Start, target: Target, m: Limits, h0: f64) -> 
 }
 
 // Single step.
+#[tactic(auto, unfolding(crate::specs::TimeNoneTwoStep::times_none_single_step))]
 pub fn times_none_single_step(start: Start, target: Target, m: Limits) -> [f64; 7]
     ensures { result ≡ times_none_single_step start target m }
 {

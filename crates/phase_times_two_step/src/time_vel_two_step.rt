@@ -7,6 +7,7 @@ use phase_times::constants::Constants;
 use profile::{Limits, Start, Target};
 
 // Four step, phase 0 takes the acceleration to 0.
+#[tactic(auto, unfolding(crate::specs::TimeVelTwoStep::times_vel_phase0))]
 pub fn times_vel_phase_0(start: Start, target: Target, k: Constants, m: Limits, h1: f64) -> [f64; 7]
     ensures { result ≡ times_vel_phase0 start target k m h1 }
 {
@@ -20,6 +21,7 @@ pub fn times_vel_phase_0(start: Start, target: Target, k: Constants, m: Limits, 
 }
 
 // Four step, phase 2 takes the acceleration to 0.
+#[tactic(auto, unfolding(crate::specs::TimeVelTwoStep::times_vel_phase2))]
 pub fn times_vel_phase_2(start: Start, target: Target, k: Constants, m: Limits, h1: f64) -> [f64; 7]
     ensures { result ≡ times_vel_phase2 start target k m h1 }
 {

@@ -1,8 +1,0 @@
--- `phase_times_quartic::correction_acc1::deriv_acc1` meets its contract. Assumes nothing.
-use Rattle.std.proofs.Common.{refl}
-use Rattle.phase_times_quartic.specs.CorrectionAcc1.{deriv_acc1}
-use Rattle.phase_times_quartic.proofs.correction_acc1.deriv_acc1.Goals as goal
-
-pub returns : goal.returns
-unfolding deriv_acc1
-returns c = refl

@@ -1,8 +1,0 @@
--- `phase_times_quartic::time_acc0::polynom_acc0` meets its contract. Assumes nothing.
-use Rattle.std.proofs.Common.{refl}
-use Rattle.phase_times_quartic.specs.TimeAcc0.{polynom_acc0}
-use Rattle.phase_times_quartic.proofs.time_acc0.polynom_acc0.Goals as goal
-
-pub returns : goal.returns
-unfolding polynom_acc0
-returns c = refl

@@ -1,8 +1,0 @@
--- `phase_times_quartic::time_acc1::h0_acc1` meets its contract. Assumes nothing.
-use Rattle.std.proofs.Common.{refl}
-use Rattle.phase_times_quartic.specs.TimeAcc1.{h0_acc1}
-use Rattle.phase_times_quartic.proofs.time_acc1.h0_acc1.Goals as goal
-
-pub returns : goal.returns
-unfolding h0_acc1
-returns c = refl

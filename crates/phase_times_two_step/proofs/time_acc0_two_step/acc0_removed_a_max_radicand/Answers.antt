@@ -1,8 +1,0 @@
--- `phase_times_two_step::time_acc0_two_step::acc0_removed_a_max_radicand` meets its contract. Assumes nothing.
-use Rattle.std.proofs.Common.{refl}
-use Rattle.phase_times_two_step.specs.TimeAcc0TwoStep.{acc0_removed_a_max_radicand}
-use Rattle.phase_times_two_step.proofs.time_acc0_two_step.acc0_removed_a_max_radicand.Goals as goal
-
-pub returns : goal.returns
-unfolding acc0_removed_a_max_radicand
-returns c = refl
