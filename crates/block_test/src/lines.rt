@@ -8,10 +8,11 @@ ghost use Rattle.block_test.specs.Lines.{interval_fields, block_text, answer_tex
 ghost use Rattle.block_test.specs.Lines.{line_of};
 
 use crate::records::{given_of, selected_of};
-use block::{Answer, Block, Blocking, Interval};
+use block::{Block, Interval};
 use decimals::put_number;
 use encoding::double_at;
 use profile_lines::{put, put_double};
+use refusals::Refusal;
 use stretch_lines::{put_both_ends, put_kind};
 
 // A stretch and the mark of the profile beside it.
@@ -40,26 +41,28 @@ fn put_block(out: &mut [u8], at: usize, x: Block) -> usize
     put_interval(out, a_end, b)
 }
 
-fn put_answer(out: &mut [u8], at: usize, x: Answer) -> usize
+fn put_answer(out: &mut [u8], at: usize, x: Result<Block, Refusal>) -> usize
     requires { at + 154 ≤ length out.old }
     ensures { Puts out.old out.new at result (answer_text x) 154 }
 {
-    if x.refusal == 0 {
-        let block = x.block;
-        return put_block(out, at, block);
+    match x {
+        Ok(block) => put_block(out, at, block),
+        Err(refusal) => {
+            let refused_end = put(out, at, b"refused");
+            put_number(out, refused_end, u64::from(refusal))
+        }
     }
-    let refused_end = put(out, at, b"refused");
-    put_number(out, refused_end, x.refusal)
 }
 
-fn put_blocking(out: &mut [u8], at: usize, x: Blocking) -> usize
+// Refusal 6 is the only one.
+fn put_blocking(out: &mut [u8], at: usize, x: Result<bool, Refusal>) -> usize
     requires { at + 10 ≤ length out.old }
     ensures { Puts out.old out.new at result (field (blocking_name x)) 10 }
 {
     match x {
-        Blocking::Blocked => put(out, at, b" blocked"),
-        Blocking::Free => put(out, at, b" free"),
-        Blocking::NotFinite => put(out, at, b" refused 6"),
+        Ok(true) => put(out, at, b" blocked"),
+        Ok(false) => put(out, at, b" free"),
+        Err(_) => put(out, at, b" refused 6"),
     }
 }
 
@@ -80,7 +83,7 @@ pub fn line(bytes: &[u8; 225], out: &mut [u8; 235]) -> usize
     ensures prefix_len { IsPrefixLen result out.new }
 {
     let answer = selected_of(bytes);
-    let block = answer.block;
+    let block = answer.unwrap_or(Block::empty());
     let answer_end = put_answer(out, 0, answer);
     let selected_end = put_blockings(out, answer_end, block, bytes);
     let given_end = put_blockings(out, selected_end, given_of(bytes), bytes);

@@ -4,9 +4,10 @@ ghost use Rattle.std.specs.Prelude.{◌≡◌, ◌+◌, ◌≤◌};
 ghost use Rattle.block_test.specs.Records.{direction_of, stretch_of, profile_at, profiles_of, selected_of, interval_at};
 ghost use Rattle.block_test.specs.Records.{given_of};
 
-use block::{Answer, Block, Interval, Stretch};
+use block::{Block, Interval, Stretch};
 use encoding::double_at;
 use profile::{ControlSigns, Direction, Profile, ReachedLimits};
+use refusals::Refusal;
 
 fn direction_of(n: u8) -> Direction
     ensures { result ≡ direction_of n }
@@ -65,7 +66,7 @@ fn profiles_of(bytes: &[u8; 225]) -> [Profile; 6]
 }
 
 // What selection answers.
-pub fn selected_of(bytes: &[u8; 225]) -> Answer
+pub fn selected_of(bytes: &[u8; 225]) -> Result<Block, Refusal>
     ensures { result ≡ selected_of bytes.now }
 {
     Block::calculate_block(profiles_of(bytes), usize::from(bytes[0]))

@@ -10,6 +10,7 @@ ghost use Rattle.buffer_test.specs.Records.{buffer_most};
 use crate::records::{BUFFER_MOST, MOVE_MOST, RECORD_LENGTH, TIME_AT, count_at};
 use decimals::{DECIMAL_WIDTH, put_decimal, put_number};
 use encoding::{double_at, doubles_at};
+use plan_buffer::{asked_number, is_blocked, plan, plan_number};
 use profile_lines::{DOUBLE_WIDTH, put, put_doubles};
 
 // Two numbers, a buffer's doubles, the space in front of the second number and a line feed.
@@ -47,8 +48,8 @@ fn put_answer(out: &mut [u8], at: usize, mv: &[f64], buffer: &mut [f64], t: f64)
     requires { (at + line_length ≤ length out.old) × (length buffer.old ≤ buffer_most) }
     ensures { Puts out.old out.new at result (answer_of mv.now buffer.old t) line_length }
 {
-    let status = plan_buffer::plan(mv, buffer);
-    let blocked = plan_buffer::is_blocked(buffer, t);
+    let status = plan_number(plan(mv, buffer));
+    let blocked = asked_number(is_blocked(buffer, t));
     let status_end = put_decimal(out, at, status);
     let buffer_end = put_buffer(out, status_end, status, buffer);
     let blocked_end = put_number(out, buffer_end, blocked);

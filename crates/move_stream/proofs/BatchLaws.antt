@@ -8,7 +8,7 @@ use native.Mathlib.Numerals.{add-one}
 use borrow.Author.Tests.{ltb-true, leb-true, lt-ltb, le-leb}
 use lib.Dec.{ltb, leb}
 use lib.ListN.{take, drop}
-use Rattle.block.specs.declared.Answer.{Answer}
+use Rattle.block.specs.Blocks.{Answer}
 use Rattle.profile_lines.specs.Text.{Puts}
 use Rattle.profile_lines.proofs.PutLaws.{then}
 use Rattle.moves.specs.Records.{record_length, record_of}

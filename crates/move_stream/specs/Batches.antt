@@ -4,7 +4,7 @@ use Rattle.std.specs.Prelude.{take, drop, Option, Result}
 use Rattle.refusals.specs.declared.Refusal.{Refusal}
 use Rattle.planner.specs.declared.Move.{Move}
 use Rattle.profile_lines.specs.Text.{Puts}
-use Rattle.block.specs.declared.Answer.{Answer}
+use Rattle.block.specs.Blocks.{Answer}
 use Rattle.moves.specs.Records.{record_length, record_of}
 use Rattle.moves.specs.Lines.{line_of, full_line_of, line_length, full_line_length}
 use Rattle.moves.specs.Replies.{reply_of, goes_on_after}

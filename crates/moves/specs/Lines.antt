@@ -1,13 +1,13 @@
 -- The lines of text for an answer: fields one space apart, a line feed at the end. Definitions only.
-use Rattle.std.specs.Prelude.{ℕ, ◌+◌, cond, List, ◌++◌, eqb}
+use Rattle.std.specs.Prelude.{ℕ, ◌+◌, List, ◌++◌, Ok, Err}
 use Rattle.profile_lines.specs.Text.{ascii}
 use Rattle.profile_lines.specs.Fields.{direction_name, limits_name, field, hex, double_fields, profile_fields}
 use Rattle.profile_lines.specs.Fields.{double_width, direction_width, limits_width, profile_width}
-use Rattle.block.specs.Blocks.{count_of, both_ends, ends_of}
+use Rattle.refusals.specs.Numbers.{refusal_number}
+use Rattle.block.specs.Blocks.{count_of, both_ends, ends_of, Answer}
 use Rattle.block.specs.declared.Stretch.{Stretch}
 use Rattle.block.specs.declared.Interval.{Interval}
 use Rattle.block.specs.declared.Block.{Block}
-use Rattle.block.specs.declared.Answer.{Answer}
 use Rattle.decimals.specs.Decimal.{decimal, decimal_width, number_width}
 use Rattle.stretch_lines.specs.Kinds.{kind_of, kind_width, both_ends_width}
 
@@ -30,7 +30,8 @@ unfoldable pub refusal_fields : ℕ → List ℕ
 refusal_fields k = field (ascii "refused") ++ field (decimal k)
 
 unfoldable pub answer_fields : Answer → List ℕ
-answer_fields x = cond (eqb x.refusal 0) (plan_fields x.block) (refusal_fields x.refusal)
+answer_fields (Ok b) = plan_fields b
+answer_fields (Err refusal) = refusal_fields (refusal_number refusal)
 
 -- the line of record number n
 unfoldable pub line_of : ℕ → Answer → List ℕ
@@ -50,7 +51,8 @@ full_fields x =
     ++ interval_fields x.b
 
 unfoldable pub full_answer_fields : Answer → List ℕ
-full_answer_fields x = cond (eqb x.refusal 0) (full_fields x.block) (refusal_fields x.refusal)
+full_answer_fields (Ok b) = full_fields b
+full_answer_fields (Err refusal) = refusal_fields (refusal_number refusal)
 
 unfoldable pub full_line_of : ℕ → Answer → List ℕ
 full_line_of n x = decimal n ++ full_answer_fields x ++ ascii "\n"

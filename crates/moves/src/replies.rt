@@ -9,7 +9,6 @@ ghost use Rattle.moves.specs.Replies.{reply_of, goes_on_after};
 use crate::Reply;
 use crate::lines::{FULL_LINE_LENGTH, LINE_LENGTH, full_line, line};
 use crate::records::read_record;
-use block::Answer;
 use planner::plan;
 
 // The answer to record number n, whose bytes are the input's next: its line, at the start of out.
@@ -23,7 +22,7 @@ pub fn reply_to(n: u64, bytes: &[u8], out: &mut [u8; LINE_LENGTH]) -> Reply
             goes_on: false,
         },
         Some(Err(refusal)) => Reply {
-            length: line(n, Answer::refused(u64::from(refusal)), out),
+            length: line(n, Err(refusal), out),
             goes_on: false,
         },
         Some(Ok(x)) => Reply {
@@ -44,7 +43,7 @@ pub fn full_reply_to(n: u64, bytes: &[u8], out: &mut [u8; FULL_LINE_LENGTH]) -> 
             goes_on: false,
         },
         Some(Err(refusal)) => Reply {
-            length: full_line(n, Answer::refused(u64::from(refusal)), out),
+            length: full_line(n, Err(refusal), out),
             goes_on: false,
         },
         Some(Ok(x)) => Reply {

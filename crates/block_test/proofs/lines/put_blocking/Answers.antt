@@ -3,14 +3,14 @@ use native.Mathlib.Omega.{arith}
 use Rattle.profile_lines.proofs.PutLaws.{within}
 use Rattle.block_test.proofs.lines.put_blocking.Goals as goal
 
-pub returns-in-Blocked : goal.returns-in-Blocked
-returns-in-Blocked c =
-    rw c.in-Blocked.is (within (omega arith) c.put.ensures)
+pub returns-in-Ok-true : goal.returns-in-Ok-true
+returns-in-Ok-true c =
+    rw (c.in-Ok-true.is, c.in-Ok-true.field-0-test) (within (omega arith) c.put.ensures)
 
-pub returns-in-Free : goal.returns-in-Free
-returns-in-Free c =
-    rw c.in-Free.is (within (omega arith) c.put-in-Free.ensures)
+pub returns-in-Ok-false : goal.returns-in-Ok-false
+returns-in-Ok-false c =
+    rw (c.in-Ok-false.is, c.in-Ok-false.field-0-test) (within (omega arith) c.put-in-Ok-false.ensures)
 
-pub returns-in-NotFinite : goal.returns-in-NotFinite
-returns-in-NotFinite c =
-    rw c.in-NotFinite.is (within (omega arith) c.put-in-NotFinite.ensures)
+pub returns-in-Err : goal.returns-in-Err
+returns-in-Err c =
+    rw c.in-Err.is (within (omega arith) c.put-in-Err.ensures)

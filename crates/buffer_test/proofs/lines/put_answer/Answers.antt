@@ -7,9 +7,11 @@ pub returns : goal.returns
 unfolding answer_of
 returns c =
     rw (
-      c.is_blocked-blocked.ensures.status_is,
-      c.plan-status.ensures.planned.status_is,
-      c.plan-status.ensures.planned.after_is,
+      c.asked_number-blocked.ensures,
+      c.is_blocked.ensures.status_is,
+      c.plan_number-status.ensures,
+      c.plan.ensures.planned.status_is,
+      c.plan.ensures.planned.after_is,
     ) at
     (then (then (then
     c.put_decimal-status_end.ensures

@@ -12,7 +12,7 @@ returns-in-None c =
 pub returns-in-Some-Err : goal.returns-in-Some-Err
 returns-in-Some-Err c =
     rw (sym c.read_record.ensures.record_is ∙ c.in-Some-Err.is, c.in-Some-Err.field-0-is)
-    (record { puts = rw (c.refused.ensures, c.from.ensures) at c.line.ensures; goes_on_value = refl })
+    (record { puts = c.line.ensures; goes_on_value = refl })
 
 pub returns-in-Some-Ok : goal.returns-in-Some-Ok
 returns-in-Some-Ok c =
