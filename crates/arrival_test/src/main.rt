@@ -12,7 +12,7 @@ ghost use Rattle.arrival_test.specs.Lines.{text_of, text_width, line_length, Ans
 
 use arrival::{Arrival, arrival};
 use decimals::{DECIMAL_WIDTH, put_number};
-use encoding::{byte_at, double_at};
+use encoding::double_at;
 use profile_lines::{DOUBLE_WIDTH, put, put_double};
 use refusals::Refusal;
 
@@ -74,8 +74,8 @@ fn answer() -> bool {
     if io::read_full(0, &mut counts) < 2 {
         return false;
     }
-    let n = byte_at(&counts, 0);
-    let m = byte_at(&counts, 1);
+    let n = usize::from(counts[0]);
+    let m = usize::from(counts[1]);
     if n > DURATIONS_MOST {
         return false;
     }

@@ -5,10 +5,10 @@ ghost use Rattle.block_test.specs.Records.{direction_of, stretch_of, profile_at,
 ghost use Rattle.block_test.specs.Records.{given_of};
 
 use block::{Answer, Block, Interval, Stretch};
-use encoding::{byte_at, double_at};
+use encoding::double_at;
 use profile::{ControlSigns, Direction, Profile, ReachedLimits};
 
-fn direction_of(n: usize) -> Direction
+fn direction_of(n: u8) -> Direction
     ensures { result ≡ direction_of n }
 {
     match n {
@@ -17,7 +17,7 @@ fn direction_of(n: usize) -> Direction
     }
 }
 
-fn stretch_of(n: usize, left: f64, right: f64) -> Stretch
+fn stretch_of(n: u8, left: f64, right: f64) -> Stretch
     ensures { result ≡ stretch_of n left right }
 {
     match n {
@@ -33,7 +33,7 @@ fn profile_at(bytes: &[u8; 225], at: usize, mark: f64) -> Profile
     ensures { result ≡ profile_at bytes.now at mark }
 {
     let total = double_at(bytes, at);
-    let direction = direction_of(byte_at(bytes, at + 24));
+    let direction = direction_of(bytes[at + 24]);
     Profile {
         t: [0.0; 7],
         t_sum: [0.0, 0.0, 0.0, 0.0, 0.0, 0.0, total],
@@ -68,7 +68,7 @@ fn profiles_of(bytes: &[u8; 225]) -> [Profile; 6]
 pub fn selected_of(bytes: &[u8; 225]) -> Answer
     ensures { result ≡ selected_of bytes.now }
 {
-    Block::calculate_block(profiles_of(bytes), byte_at(bytes, 0))
+    Block::calculate_block(profiles_of(bytes), usize::from(bytes[0]))
 }
 
 fn interval_at(bytes: &[u8; 225], at: usize) -> Interval
@@ -77,7 +77,7 @@ fn interval_at(bytes: &[u8; 225], at: usize) -> Interval
 {
     let left = double_at(bytes, at + 1);
     let right = double_at(bytes, at + 9);
-    let stretch = stretch_of(byte_at(bytes, at), left, right);
+    let stretch = stretch_of(bytes[at], left, right);
     let profile = Profile::empty();
     Interval { stretch, profile }
 }

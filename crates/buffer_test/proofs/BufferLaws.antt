@@ -2,7 +2,7 @@
 use Prim.Native.Nat.{ℕ, ◌+◌, ◌<◌}
 use mathlib.Core.Path.{◌≡◌}
 use mathlib.Core.Bool.{◌&&◌}
-use mathlib.Core.List.{List, ◌∷◌}
+use mathlib.Core.List.{List}
 use native.Mathlib.Numerals.{add-one}
 use lib.ListN.{length, drop}
 use lib.Seq.{drop-cons}
@@ -15,6 +15,3 @@ pub one_more : (l : List Float) (i : ℕ) → i < length l
     → is_unchanged (drop i l) ≡ ((at l i ==ᶠ minus1ᶠ) && is_unchanged (drop (i + 1) l))
 unfolding is_unchanged
 one_more l i h = rw (add-one, drop-cons l i nan h)
-
-pub cons_same : {x y : Float} {l m : List Float} → x ≡ y → l ≡ m → x ∷ l ≡ y ∷ m
-cons_same p q = cc

@@ -1,9 +1,9 @@
 -- What the bytes of a record mean: how many doubles of the move are handed over and how many the plan's buffer has, a
 -- byte each, then as many doubles as can be handed over, the move's first, and a time. Definitions only.
-use Rattle.std.specs.Prelude.{ℕ, ◌+◌, ◌*◌, min, List, [], ◌∷◌, get_or, take, replicate, Float}
+use Rattle.std.specs.Prelude.{ℕ, ◌+◌, ◌*◌, min, List, get_or, take, replicate, Float}
 use Rattle.std.specs.Float.Ieee.{neg}
 use Rattle.doubles.specs.Constants.{1ᶠ}
-use Rattle.encoding.specs.Encoding.{double_at}
+use Rattle.encoding.specs.Encoding.{double_at, doubles_at}
 
 -- the most doubles of a move that are handed over, and the most that a buffer has
 abbrev pub move_most : ℕ
@@ -22,25 +22,8 @@ record_length = time_at + 8
 abbrev pub minus1ᶠ : Float
 minus1ᶠ = neg 1ᶠ
 
-unfoldable pub doubles_of : List ℕ → List Float
-doubles_of b =
-    double_at b 2
-    ∷ double_at b 10
-    ∷ double_at b 18
-    ∷ double_at b 26
-    ∷ double_at b 34
-    ∷ double_at b 42
-    ∷ double_at b 50
-    ∷ double_at b 58
-    ∷ double_at b 66
-    ∷ double_at b 74
-    ∷ double_at b 82
-    ∷ double_at b 90
-    ∷ double_at b 98
-    ∷ double_at b 106
-    ∷ double_at b 114
-    ∷ double_at b 122
-    ∷ []
+abbrev pub doubles_of : List ℕ → List Float
+doubles_of b = doubles_at b 2 move_most
 
 -- what is handed over of the move
 unfoldable pub move_of : List ℕ → List Float

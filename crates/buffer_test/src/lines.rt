@@ -7,9 +7,9 @@ ghost use Rattle.profile_lines.specs.Text.{Puts};
 ghost use Rattle.buffer_test.specs.Lines.{is_unchanged, buffer_fields, answer_of, line_of, buffer_width, line_length};
 ghost use Rattle.buffer_test.specs.Records.{buffer_most};
 
-use crate::records::{BUFFER_MOST, MOVE_MOST, RECORD_LENGTH, TIME_AT, count_at, doubles_of};
+use crate::records::{BUFFER_MOST, MOVE_MOST, RECORD_LENGTH, TIME_AT, count_at};
 use decimals::{DECIMAL_WIDTH, put_decimal, put_number};
-use encoding::double_at;
+use encoding::{double_at, doubles_at};
 use profile_lines::{DOUBLE_WIDTH, put, put_doubles};
 
 // Two numbers, a buffer's doubles, the space in front of the second number and a line feed.
@@ -60,7 +60,7 @@ pub fn line(bytes: &[u8; RECORD_LENGTH], out: &mut [u8; LINE_LENGTH]) -> usize
     ensures puts { Puts out.old out.new 0 result (line_of bytes.now) line_length }
     ensures prefix_len { IsPrefixLen result out.new }
 {
-    let mv = doubles_of(bytes);
+    let mv: [f64; MOVE_MOST] = doubles_at(bytes, 2);
     let mut buffer = [-1.0; BUFFER_MOST];
     let m = count_at(bytes, 0, MOVE_MOST);
     let n = count_at(bytes, 1, BUFFER_MOST);

@@ -1,76 +1,49 @@
 -- What the functions of `encoding` rest on. Assumes nothing.
-use mathlib.Core.Path.{◌≡◌, refl, sym, ◌∙◌, subst}
-use Prim.Native.Nat.{ℕ, ◌+◌, ◌/◌, ◌%◌, ◌<◌}
-use mathlib.Core.Bool.{true}
-use mathlib.Core.List.{List, [], ◌∷◌}
-use lib.Dec.{T, lt→ltb}
-use lib.ListN.{drop, get_or}
-use lib.Seq.{get_or-drop}
-use native.Mathlib.Omega.{arith}
-use lib.Pow.{shr-shr}
-use lib.Ieee.{Float, nan, inf, fin, binary64, of_bits, to_bits, is_nan, ne}
-use lib.Ieee.Bits.{nan_bits_is, nan_bits_above}
-use lib.Ieee.Compare.{differs_from_itself}
-use Rattle.encoding.specs.Encoding.{big_endian, hex_digit, hex_digits}
+use Rattle.std.proofs.Common.{◌≡◌, ℕ, zero, suc, ◌+◌, ◌-◌, ◌*◌, ◌/◌, ◌%◌, ◌^◌, ◌<◌, arith}
+use Rattle.std.proofs.Common.{List, [], length, take, drop, get_or, add-one}
+use Rattle.std.proofs.Common.{take-suc-set}
+use Rattle.std.proofs.lemmas.List.{drop-set, get_or-take}
+use Rattle.std.proofs.Math.Nat.{div-div-eq-div-mul, pow-suc}
+use Rattle.std.proofs.Math.ListN.{set}
+use Rattle.std.specs.Int.{from_be_bytes, w64}
+use Rattle.std.specs.Simd.{first_chunks}
+use Rattle.std.specs.Float.Ieee.{Float}
+use Rattle.encoding.specs.Encoding.{big_endian, double_at, doubles_at, hex_digit, hex_digits}
 
--- ---- a pattern is a NaN's where it is above that of an infinity, the sign left out
-is_nan_law : (x : Float) → T (is_nan x) → x ≡ nan
-unfolding is_nan
-is_nan_law nan h = refl
-is_nan_law (inf s) h = absurd h
-is_nan_law (fin s m e) h = absurd h
+-- std's number of eight bytes is the definition's
+pub big_endian_is : (b : List ℕ) → from_be_bytes w64 b ≡ big_endian b
+big_endian_is b = omega arith
 
-pub nan_pattern : (w : ℕ) → 0x7ff0_0000_0000_0000 < w % 0x8000_0000_0000_0000 → of_bits binary64 w ≡ nan
-nan_pattern w h =
-    is_nan_law (of_bits binary64 w)
-    (subst T (sym (nan_bits_above binary64 w) ∙ nan_bits_is binary64 w)
-    (lt→ltb 0x7ff0_0000_0000_0000 (w % 0x8000_0000_0000_0000) h))
-
--- ---- only a NaN differs from itself
-pub nan_bits : (x : Float) → ne x x ≡ true → 0x7ff8_0000_0000_0000 ≡ to_bits binary64 x
-nan_bits x h = rw (differs_from_itself x (subst T (sym h) tt)) (unfold to_bits in refl)
-
--- ---- eight bytes read one by one
-pub eight_bytes : (b : List ℕ) (at : ℕ)
-    → big_endian (get_or b at 0 ∷ get_or b (at + 1) 0 ∷ get_or b (at + 2) 0 ∷ get_or b (at + 3) 0 ∷ get_or b (at + 4) 0 ∷ get_or b
-    (at + 5) 0 ∷ get_or b (at + 6) 0 ∷ get_or b (at + 7) 0 ∷ []) ≡ big_endian (drop at b)
-eight_bytes b at =
-    let e : at + 0 ≡ at = omega arith in
+-- the first of a list's chunks of eight bytes has the list's number
+pub first_word : (l : List ℕ) (k : ℕ) → 0 < k → from_be_bytes w64 (get_or (first_chunks 8 k l) 0 []) ≡ big_endian l
+first_word l zero h = absurd (omega arith)
+first_word l (suc k) h =
+    let byte : (i : ℕ) → i < 8 → get_or (take 8 l) i 0 ≡ get_or l i 0 = λ i below. get_or-take 8 l i 0 below in
     rw (
-      get_or-drop at b 0 0,
-      get_or-drop at b 1 0,
-      get_or-drop at b 2 0,
-      get_or-drop at b 3 0,
-      get_or-drop at b 4 0,
-      get_or-drop at b 5 0,
-      get_or-drop at b 6 0,
-      get_or-drop at b 7 0,
-      e,
+      big_endian_is (take 8 l),
+      byte 0 (omega arith),
+      byte 1 (omega arith),
+      byte 2 (omega arith),
+      byte 3 (omega arith),
+      byte 4 (omega arith),
+      byte 5 (omega arith),
+      byte 6 (omega arith),
+      byte 7 (omega arith),
     )
 
--- ---- eight digits, and sixteen
-module _ (w a b c d e f g h : ℕ) where
-  pub eight_digits : a ≡ hex_digit (w / 0x1000_0000 % 16) → b ≡ hex_digit (w / 0x100_0000 % 16)
-      → c ≡ hex_digit (w / 0x10_0000 % 16) → d ≡ hex_digit (w / 0x1_0000 % 16)
-      → e ≡ hex_digit (w / 0x1000 % 16) → f ≡ hex_digit (w / 0x100 % 16) → g ≡ hex_digit (w / 0x10 % 16)
-      → h ≡ hex_digit (w / 1 % 16)
-      → a ∷ b ∷ c ∷ d ∷ e ∷ f ∷ g ∷ h ∷ [] ≡ hex_digits 8 w
-  eight_digits p q r s t u v x = cc
+-- one more double behind the first i
+pub one_more : (b : List ℕ) (at i : ℕ) (l : List Float) → i < length l → take i l ≡ doubles_at b at i
+    → take (i + 1) (set l i (double_at b (at + 8 * i))) ≡ doubles_at b at (i + 1)
+unfolding doubles_at
+one_more b at i l h p = rw (add-one, take-suc-set l i (double_at b (at + 8 * i)) h, p)
 
-pub sixteen_digits : (w : ℕ) (h l : List ℕ) → h ≡ hex_digits 8 (w / 0x1_0000_0000) → l ≡ hex_digits 8 w
-    → get_or h 0 0 ∷ get_or h 1 0 ∷ get_or h 2 0 ∷ get_or h 3 0 ∷ get_or h 4 0 ∷ get_or h 5 0 ∷ get_or h 6 0 ∷ get_or h 7 0
-    ∷ get_or l 0 0 ∷ get_or l 1 0 ∷ get_or l 2 0 ∷ get_or l 3 0 ∷ get_or l 4 0 ∷ get_or l 5 0 ∷ get_or l 6 0 ∷ get_or l 7 0 ∷ []
-    ≡ hex_digits 16 w
-sixteen_digits w h l p q =
-    rw (
-      p,
-      q,
-      shr-shr w 32 28,
-      shr-shr w 32 24,
-      shr-shr w 32 20,
-      shr-shr w 32 16,
-      shr-shr w 32 12,
-      shr-shr w 32 8,
-      shr-shr w 32 4,
-      shr-shr w 32 0,
-    )
+-- one more digit before the last i
+pub digit_before : (w i : ℕ) (d : List ℕ) → i < 16 → length d ≡ 16 → drop (16 - i) d ≡ hex_digits i w
+    → drop (16 - (i + 1)) (set d (15 - i) (hex_digit (w / 16 ^ i % 16))) ≡ hex_digits (i + 1) w
+digit_before w i d h n p =
+    let place : 16 - (i + 1) ≡ 15 - i = omega arith in
+    let next : 15 - i + 1 ≡ 16 - i = omega arith in
+    rw (place, drop-set d (15 - i) (hex_digit (w / 16 ^ i % 16)) (omega arith), next, p, add-one)
+
+pub digit_less : (w i : ℕ) → w / 16 ^ i / 16 ≡ w / 16 ^ (i + 1)
+digit_less w i = rw (div-div-eq-div-mul w (16 ^ i) 16, add-one, pow-suc 16 i)

@@ -1,6 +1,6 @@
 -- A double's bit pattern as eight bytes, the highest first, and as sixteen hexadecimal digits
 -- with capital letters. Definitions only.
-use Rattle.std.specs.Prelude.{ℕ, zero, suc, ◌+◌, ◌*◌, ◌/◌, ◌%◌, ◌^◌, cond, List, [], ◌∷◌, ltb, Float, drop, get_or}
+use Rattle.std.specs.Prelude.{ℕ, zero, suc, ◌+◌, ◌*◌, ◌/◌, ◌%◌, ◌^◌, cond, List, [], ◌∷◌, ◌++◌, ltb, Float, drop, get_or}
 use Rattle.std.specs.Float.{binary64}
 use Rattle.std.specs.Float.Ieee.{of_bits}
 
@@ -13,6 +13,11 @@ big_endian b =
 -- the double of the eight bytes from `at` on; every NaN's pattern is the one NaN
 abbrev pub double_at : List ℕ → ℕ → Float
 double_at b at = of_bits binary64 (big_endian (drop at b))
+
+-- n doubles one behind the other, the first of them at `at`
+unfoldable pub doubles_at : List ℕ → (at n : ℕ) → List Float
+doubles_at b at zero = []
+doubles_at b at (suc n) = doubles_at b at n ++ double_at b (at + 8 * n) ∷ []
 
 -- the ASCII of a hexadecimal digit: 0 to 9, A to F
 unfoldable pub hex_digit : ℕ → ℕ

@@ -9,7 +9,6 @@ ghost use Rattle.families_test.specs.Lines.{if_added, added_line, single_line, l
 use crate::records::{after_family, list_of, single_step};
 use candidates::Candidates;
 use decimals::{DECIMAL_WIDTH, put_decimal};
-use encoding::byte_at;
 use profile_check::Checked;
 use profile_lines::{PROFILE_WIDTH, put, put_profile_fields};
 
@@ -70,10 +69,10 @@ pub fn line(bytes: &[u8; 108], out: &mut [u8; LINE_LENGTH]) -> usize
     ensures puts { Puts out.old out.new 0 result (line_of bytes.now) added_width }
     ensures prefix_len { IsPrefixLen result out.new }
 {
-    if byte_at(bytes, 104) == 7 {
+    if bytes[104] == 7 {
         return put_single(out, 0, single_step(bytes));
     }
-    let counted = byte_at(bytes, 107);
+    let counted = usize::from(bytes[107]);
     if counted > 5 {
         return put(out, 0, b"");
     }

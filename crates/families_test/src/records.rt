@@ -10,7 +10,7 @@ ghost use Rattle.families_test.specs.Records.{start_of, target_of, limits_of, bo
 ghost use Rattle.families_test.specs.Records.{called, after_family, single_step};
 
 use candidates::Candidates;
-use encoding::{byte_at, double_at};
+use encoding::doubles_at;
 use phase_times::constants::Constants;
 use profile::{Limits, Profile, Start, Target};
 use profile_check::Checked;
@@ -19,32 +19,27 @@ use search::{Kind, search};
 fn start_of(bytes: &[u8; 108]) -> Start
     ensures { result ≡ start_of bytes.now }
 {
-    Start {
-        p0: double_at(bytes, 0),
-        v0: double_at(bytes, 8),
-        a0: double_at(bytes, 16),
-    }
+    let [p0, v0, a0]: [f64; 3] = doubles_at(bytes, 0);
+    Start { p0, v0, a0 }
 }
 
 fn target_of(bytes: &[u8; 108]) -> Target
     ensures { result ≡ target_of bytes.now }
 {
-    Target {
-        pf: double_at(bytes, 24),
-        vf: double_at(bytes, 32),
-        af: double_at(bytes, 40),
-    }
+    let [pf, vf, af]: [f64; 3] = doubles_at(bytes, 24);
+    Target { pf, vf, af }
 }
 
 fn limits_of(bytes: &[u8; 108]) -> Limits
     ensures { result ≡ limits_of bytes.now }
 {
+    let [v_max, v_min, a_max, a_min, j_max]: [f64; 5] = doubles_at(bytes, 48);
     Limits {
-        v_max: double_at(bytes, 48),
-        v_min: double_at(bytes, 56),
-        a_max: double_at(bytes, 64),
-        a_min: double_at(bytes, 72),
-        j_max: double_at(bytes, 80),
+        v_max,
+        v_min,
+        a_max,
+        a_min,
+        j_max,
     }
 }
 
@@ -53,8 +48,9 @@ fn boundary_of(bytes: &[u8; 108]) -> Profile
     ensures { result ≡ boundary_of bytes.now }
 {
     let mut q = Profile::empty().with_boundary(start_of(bytes), target_of(bytes));
-    q.brake = double_at(bytes, 88);
-    q.accel = double_at(bytes, 96);
+    let [brake, accel]: [f64; 2] = doubles_at(bytes, 88);
+    q.brake = brake;
+    q.accel = accel;
     q
 }
 
@@ -63,7 +59,7 @@ fn directed(bytes: &[u8; 108]) -> Limits
     ensures { result ≡ directed bytes.now }
 {
     let limits = limits_of(bytes);
-    if byte_at(bytes, 105) == 1 {
+    if bytes[105] == 1 {
         return limits.swapped();
     }
     limits
@@ -136,9 +132,8 @@ pub fn after_family(bytes: &[u8; 108], c: Candidates) -> Candidates
     let target = target_of(bytes);
     let k = Constants::new(start, target, limits_of(bytes));
     let m = directed(bytes);
-    let family = byte_at(bytes, 104);
-    let return_after_found = byte_at(bytes, 106) == 1;
-    match family {
+    let return_after_found = bytes[106] == 1;
+    match bytes[104] {
         0 => search(c, start, target, k, m, Kind::Moving, 8, 9),
         1 => after_acc0_acc1(c, start, target, k, m, return_after_found),
         2 => after_none_acc0_acc1(c, start, target, k, m, return_after_found),

@@ -1,12 +1,13 @@
 -- Many records at once: their lines one behind the other, and how many of them are answered. Definitions only.
 use Rattle.std.specs.Prelude.{ℕ, zero, suc, ◌+◌, ◌*◌, ◌≤◌, ◌<◌, ◌≡◌, Bool, true, cond, ◌&&◌, List, [], ◌++◌, length}
-use Rattle.std.specs.Prelude.{take, drop}
+use Rattle.std.specs.Prelude.{take, drop, Option, Result}
+use Rattle.refusals.specs.declared.Refusal.{Refusal}
+use Rattle.planner.specs.declared.Move.{Move}
 use Rattle.profile_lines.specs.Text.{Puts}
 use Rattle.block.specs.declared.Answer.{Answer}
 use Rattle.moves.specs.Records.{record_length, record_of}
 use Rattle.moves.specs.Lines.{line_of, full_line_of, line_length, full_line_length}
 use Rattle.moves.specs.Replies.{reply_of, goes_on_after}
-use Rattle.moves.specs.declared.Record.{Record}
 use Rattle.move_stream.specs.declared.Batch.{Batch}
 
 -- the two forms of a line, and how long each may be
@@ -17,7 +18,7 @@ abbrev pub width_of : Bool → ℕ
 width_of full = cond full full_line_length line_length
 
 -- record number k of an input, counted from 0: as many bytes as a record has, or all that are left
-unfoldable pub record_at : List ℕ → ℕ → Record
+unfoldable pub record_at : List ℕ → ℕ → Option (Result Move Refusal)
 record_at b k = record_of (take record_length (drop (k * record_length) b))
 
 -- the lines of the first k records, which are numbered from n

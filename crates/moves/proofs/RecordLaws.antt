@@ -4,7 +4,6 @@ use mathlib.Core.Path.{◌≡◌, refl}
 use mathlib.Core.Bool.{Bool, true, false, cond, ◌||◌, true≢false, false≢true}
 use mathlib.Core.List.{List}
 use mathlib.Core.Logic.{inl, inr, ◌↔◌}
-use mathlib.Core.Option.{some}
 use native.Mathlib.Omega.{arith}
 use borrow.Author.Tests.{ltb-false}
 use lib.Dec.{eqb, ltb}
@@ -14,8 +13,9 @@ use Rattle.planner.specs.Answers.{finite_move, wrong_sign, wrong_duration, answe
 use Rattle.planner.specs.declared.Move.{Move}
 use Rattle.planner.proofs.RefusalLaws.{refused_1, refused_2, refused_3, admitted}
 use Rattle.moves.specs.Records.{record_length, record_move, is_malformed, record_of, answer_to, number_of, Reads}
-use Rattle.moves.specs.declared.Record.{Record}
-use Rattle.moves.specs.declared.Record.TheVariants.{End, Malformed, Whole}
+use Rattle.std.specs.Prelude.{Option, None, Some, Result, Ok, Err}
+use Rattle.refusals.specs.declared.Refusal.{Refusal}
+use Rattle.refusals.specs.declared.Refusal.TheVariants.{WrongRecord}
 
 first_false : (x y z : Bool) → x || y || z ≡ false → x ≡ false
 first_false false y z h = refl
@@ -42,7 +42,7 @@ module _ (x : Move) (e : (answer_of x).refusal ≡ 8) where
   by_finite false hf = let z : (answer_of x).refusal ≡ 1 = (refused_1 x).1 hf in omega arith
   by_finite true hf = by_sign (wrong_sign x.limits) refl hf
 
-by_case : (e m : Bool) (x : Move) → (number_of (answer_to (cond e End (cond m Malformed (Whole x)))) ≡ some 8) ↔
+by_case : (e m : Bool) (x : Move) → (number_of (answer_to (cond e None (Some (cond m (Err WrongRecord) (Ok x))))) ≡ Some 8) ↔
     ((e ≡ false) × (m ≡ true))
 unfolding refused
 by_case true m x =
@@ -53,6 +53,6 @@ by_case false false x = (
   λ h. absurd (false≢true h.1),
 )
 
-pub reads : (b : List ℕ) (r : Record) → r ≡ record_of b → Reads b r
+pub reads : (b : List ℕ) (r : Option (Result Move Refusal)) → r ≡ record_of b → Reads b r
 unfolding record_of
 reads b r e = record { record_is = e; eight = rw e (by_case (eqb (length b) 0) (is_malformed b) (record_move b)) }

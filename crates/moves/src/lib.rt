@@ -7,19 +7,8 @@ mod lines; // lines.rt: the line of an answer
 mod replies; // replies.rt: from the bytes of a record to the bytes of its line
 
 pub use lines::{FULL_LINE_LENGTH, LINE_LENGTH, full_line, line};
-use planner::Move;
 pub use records::{RECORD_LENGTH, read_record};
 pub use replies::{full_reply_to, reply_to};
-
-// What the input's next bytes begin with.
-#[derive(Clone, Copy)]
-pub enum Record {
-    // No byte: the input has ended.
-    End,
-    // The input ends inside the record, or its length or version is wrong.
-    Malformed,
-    Whole(Move),
-}
 
 // How many bytes answer a record, and whether another may follow.
 #[derive(Clone, Copy)]

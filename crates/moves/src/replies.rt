@@ -6,9 +6,9 @@ ghost use Rattle.moves.specs.Records.{record_of};
 ghost use Rattle.moves.specs.Lines.{line_of, full_line_of, line_length, full_line_length};
 ghost use Rattle.moves.specs.Replies.{reply_of, goes_on_after};
 
+use crate::Reply;
 use crate::lines::{FULL_LINE_LENGTH, LINE_LENGTH, full_line, line};
 use crate::records::read_record;
-use crate::{Record, Reply};
 use block::Answer;
 use planner::plan;
 
@@ -18,15 +18,15 @@ pub fn reply_to(n: u64, bytes: &[u8], out: &mut [u8; LINE_LENGTH]) -> Reply
     ensures goes_on_value { result.goes_on ≡ goes_on_after (record_of bytes.now) }
 {
     match read_record(bytes) {
-        Record::End => Reply {
+        None => Reply {
             length: 0,
             goes_on: false,
         },
-        Record::Malformed => Reply {
-            length: line(n, Answer::refused(8), out),
+        Some(Err(refusal)) => Reply {
+            length: line(n, Answer::refused(u64::from(refusal)), out),
             goes_on: false,
         },
-        Record::Whole(x) => Reply {
+        Some(Ok(x)) => Reply {
             length: line(n, plan(x), out),
             goes_on: true,
         },
@@ -39,15 +39,15 @@ pub fn full_reply_to(n: u64, bytes: &[u8], out: &mut [u8; FULL_LINE_LENGTH]) -> 
     ensures goes_on_value { result.goes_on ≡ goes_on_after (record_of bytes.now) }
 {
     match read_record(bytes) {
-        Record::End => Reply {
+        None => Reply {
             length: 0,
             goes_on: false,
         },
-        Record::Malformed => Reply {
-            length: full_line(n, Answer::refused(8), out),
+        Some(Err(refusal)) => Reply {
+            length: full_line(n, Answer::refused(u64::from(refusal)), out),
             goes_on: false,
         },
-        Record::Whole(x) => Reply {
+        Some(Ok(x)) => Reply {
             length: full_line(n, plan(x), out),
             goes_on: true,
         },

@@ -10,8 +10,9 @@ ghost use Rattle.profile_lines.specs.Fields.{double_fields, name_fields, profile
 ghost use Rattle.profile_lines.specs.Fields.{direction_width, limits_width, control_signs_width, names_width};
 ghost use Rattle.profile_lines.specs.Fields.{profile_width};
 
-use encoding::{bits_of, hex16};
+use encoding::hex16;
 use profile::{ControlSigns, Direction, Profile, ReachedLimits};
+use std::num::f64_to_bits_with_nan;
 
 // How many bytes each may take, with the space in front.
 pub const DOUBLE_WIDTH: usize = 17;
@@ -80,7 +81,7 @@ pub fn put_hex(out: &mut [u8], at: usize, x: f64) -> usize
     requires { at + hex_width ≤ length out.old }
     ensures { Puts out.old out.new at result (hex x) hex_width }
 {
-    let digits = hex16(bits_of(x));
+    let digits = hex16(f64_to_bits_with_nan(x));
     put(out, at, &digits)
 }
 

@@ -4,11 +4,11 @@ ghost use Rattle.std.specs.Prelude.{◌≡◌};
 ghost use Rattle.profile_test.specs.Records.{limits_of, control_signs_of, start_of, target_of, profile_of, bounds_of};
 ghost use Rattle.profile_test.specs.Records.{checked_of};
 
-use encoding::{byte_at, double_at};
+use encoding::{double_at, doubles_at};
 use profile::{ControlSigns, Limits, Profile, ReachedLimits, Start, Target};
 use profile_check::{Checked, check};
 
-fn limits_of(n: usize) -> ReachedLimits
+fn limits_of(n: u8) -> ReachedLimits
     ensures { result ≡ limits_of n }
 {
     match n {
@@ -23,7 +23,7 @@ fn limits_of(n: usize) -> ReachedLimits
     }
 }
 
-fn control_signs_of(n: usize) -> ControlSigns
+fn control_signs_of(n: u8) -> ControlSigns
     ensures { result ≡ control_signs_of n }
 {
     match n {
@@ -35,38 +35,23 @@ fn control_signs_of(n: usize) -> ControlSigns
 fn start_of(bytes: &[u8; 147]) -> Start
     ensures { result ≡ start_of bytes.now }
 {
-    Start {
-        p0: double_at(bytes, 0),
-        v0: double_at(bytes, 8),
-        a0: double_at(bytes, 16),
-    }
+    let [p0, v0, a0]: [f64; 3] = doubles_at(bytes, 0);
+    Start { p0, v0, a0 }
 }
 
 fn target_of(bytes: &[u8; 147]) -> Target
     ensures { result ≡ target_of bytes.now }
 {
-    Target {
-        pf: double_at(bytes, 24),
-        vf: double_at(bytes, 32),
-        af: double_at(bytes, 40),
-    }
+    let [pf, vf, af]: [f64; 3] = doubles_at(bytes, 24);
+    Target { pf, vf, af }
 }
 
 // An empty profile with the record's boundary and times.
 fn profile_of(bytes: &[u8; 147]) -> Profile
     ensures { result ≡ profile_of bytes.now }
 {
-    let t = [
-        double_at(bytes, 48),
-        double_at(bytes, 56),
-        double_at(bytes, 64),
-        double_at(bytes, 72),
-        double_at(bytes, 80),
-        double_at(bytes, 88),
-        double_at(bytes, 96),
-    ];
     let mut q = Profile::empty().with_boundary(start_of(bytes), target_of(bytes));
-    q.t = t;
+    q.t = doubles_at(bytes, 48);
     q
 }
 
@@ -74,11 +59,12 @@ fn profile_of(bytes: &[u8; 147]) -> Profile
 fn bounds_of(bytes: &[u8; 147]) -> Limits
     ensures { result ≡ bounds_of bytes.now }
 {
+    let [v_max, v_min, a_max, a_min]: [f64; 4] = doubles_at(bytes, 112);
     Limits {
-        v_max: double_at(bytes, 112),
-        v_min: double_at(bytes, 120),
-        a_max: double_at(bytes, 128),
-        a_min: double_at(bytes, 136),
+        v_max,
+        v_min,
+        a_max,
+        a_min,
         j_max: 0.0,
     }
 }
@@ -87,9 +73,9 @@ fn bounds_of(bytes: &[u8; 147]) -> Limits
 pub fn checked_of(bytes: &[u8; 147]) -> Checked
     ensures { result ≡ checked_of bytes.now }
 {
-    let signs = control_signs_of(byte_at(bytes, 145));
-    let reached = limits_of(byte_at(bytes, 144));
-    let set_limits = byte_at(bytes, 146) == 1;
+    let signs = control_signs_of(bytes[145]);
+    let reached = limits_of(bytes[144]);
+    let set_limits = bytes[146] == 1;
     let jf = double_at(bytes, 104);
     check(
         profile_of(bytes),

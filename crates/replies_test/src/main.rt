@@ -8,7 +8,6 @@ ghost use Rattle.io.specs.Counts.{IsPrefixLen};
 ghost use Rattle.profile_lines.specs.Text.{Puts};
 ghost use Rattle.replies_test.specs.Lines.{word_of, rest_of, answer_of, word_width, answer_width};
 
-use encoding::byte_at;
 use moves::{LINE_LENGTH, reply_to};
 use profile_lines::put;
 
@@ -54,7 +53,7 @@ fn answer() -> bool {
     if io::read_full(0, &mut size) < 1 {
         return false;
     }
-    let wanted = byte_at(&size, 0);
+    let wanted = usize::from(size[0]);
     let mut bytes = [0u8; 255];
     let count = io::read_full(0, &mut bytes[..wanted]);
     if count < wanted {

@@ -10,7 +10,7 @@ ghost use Rattle.profile_lines.specs.Fields.{double_fields};
 ghost use Rattle.roots_test.specs.Lines.{roots_of, line_of};
 
 use decimals::put_decimal;
-use encoding::double_at;
+use encoding::doubles_at;
 use profile_lines::{put, put_doubles};
 use roots::{Roots, solve_quart_monic_coeffs};
 
@@ -18,13 +18,8 @@ use roots::{Roots, solve_quart_monic_coeffs};
 fn roots_of(bytes: &[u8; 32]) -> Roots
     ensures { result ≡ roots_of bytes.now }
 {
-    solve_quart_monic_coeffs(
-        double_at(bytes, 0),
-        double_at(bytes, 8),
-        double_at(bytes, 16),
-        double_at(bytes, 24),
-    )
-    .ascending()
+    let [a, b, c, d]: [f64; 4] = doubles_at(bytes, 0);
+    solve_quart_monic_coeffs(a, b, c, d).ascending()
 }
 
 // The first `count` of the values.

@@ -3,7 +3,7 @@ use Prim.Native.Nat.{ℕ}
 use mathlib.Core.Path.{◌≡◌, refl, ap, ◌∙◌}
 use mathlib.Core.List.{List}
 use lib.Ieee.{of_bits, to_bits, add, sub, mul, div, neg, lt, le, eq}
-use Rattle.encoding.specs.Encoding.{hex_digit}
+use Rattle.encoding.specs.Encoding.{doubles_at, hex_digit}
 use Rattle.doubles.specs.Functions.{absᶠ}
 use Rattle.profile.specs.Boundary.{with_boundary, empty_profile}
 use Rattle.profile.specs.With.{with_phases}
@@ -57,20 +57,20 @@ use Rattle.planner.specs.Answers.{answer_of}
 use Rattle.planner.specs.declared.Move.{Move}
 use Rattle.decimals.specs.Decimal.{decimal}
 use Rattle.planner.specs.Layout.{move_of}
-use Rattle.moves.specs.Records.{double, record_move, is_malformed, record_of}
+use Rattle.moves.specs.Records.{record_move, is_malformed, record_of}
 use Rattle.moves.specs.Lines.{stretch_fields, plan_fields, refusal_fields, answer_fields, line_of}
 use Rattle.moves.specs.Replies.{reply_of}
-use Rattle.moves.specs.declared.Record.TheVariants.{Whole}
+use Rattle.std.specs.Prelude.{Some, Ok}
 use Rattle.shop_checks.specs.Records.{record_bytes}
 use Rattle.shop_checks.specs.ShopChecks.{ShopChecks, move_1, move_2, move_2_down, move_3, move_4}
 
 -- the record's bytes are read as the move, whose answer has that line
-by_move : (n : ℕ) (x : Move) {line : List ℕ} → record_of (record_bytes x) ≡ Whole x → line_of n (answer_of x) ≡ line
+by_move : (n : ℕ) (x : Move) {line : List ℕ} → record_of (record_bytes x) ≡ Some (Ok x) → line_of n (answer_of x) ≡ line
     → reply_of line_of n (record_of (record_bytes x)) ≡ line
 by_move n x e h = ap (reply_of line_of n) e ∙ h
 
 pub shop_checks : ShopChecks
-unfolding record_bytes record_of is_malformed record_move move_of double line_of answer_fields plan_fields refusal_fields
+unfolding record_bytes record_of is_malformed record_move move_of doubles_at line_of answer_fields plan_fields refusal_fields
     stretch_fields decimal double_fields hex hex_digit answer_of finite_move finite_start finite_target finite_limits wrong_sign
     wrong_duration with_boundary with_phases empty_profile get_profile_answer get_profile get_profile_by has_zero_limit try_families
     first_search ends_at_rest rests_at_target points_up towards_target resting two_step first_of unless_found run bind in_turn

@@ -1,6 +1,14 @@
--- `encoding::hex16` meets its contract. Assumes nothing.
-use Rattle.encoding.proofs.Laws.{sixteen_digits}
+-- `encoding::hex16` meets its contract: the last i digits are found. Assumes nothing.
+use Rattle.std.proofs.Common.{arith}
+use Rattle.std.proofs.Math.ListN.{length-set}
+use Rattle.encoding.proofs.Laws.{digit_before, digit_less}
 use Rattle.encoding.proofs.hex16.Goals as goal
 
-pub returns : goal.returns
-returns c = sixteen_digits _ _ _ c.hex8-high.ensures c.hex8-low.ensures
+pub loop-i-preserved : goal.loop-i-preserved
+loop-i-preserved c =
+    let l = c.loop-i in
+    record {
+      whole = simp length-set l.invariant.whole;
+      left = rw l.invariant.left (digit_less c.args.w l.i);
+      last = rw (c.hex_digit.ensures, l.invariant.left) (digit_before c.args.w l.i l.digits (omega arith) l.invariant.whole l.invariant.last);
+    }

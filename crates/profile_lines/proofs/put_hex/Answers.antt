@@ -8,4 +8,4 @@ pub returns : goal.returns
 unfolding hex
 returns c =
     within (omega arith)
-    (rw (c.hex16-digits.ensures, c.bits_of.ensures) at c.put.ensures)
+    (rw (c.hex16-digits.ensures, c.f64_to_bits_with_nan.ensures) at c.put.ensures)

@@ -7,7 +7,6 @@ unfolding interval_at
 returns c =
     rw (
       c.stretch_of-stretch.ensures,
-      c.byte_at.ensures.0,
       c.double_at-left.ensures,
       c.double_at-right.ensures,
       c.empty-profile.ensures,

@@ -9,7 +9,6 @@ unfolding profile_at empty_profile with_phases with_names with_boundary
 returns c =
     rw (
       c.direction_of-direction.ensures,
-      c.byte_at.ensures.0,
       c.double_at-total.ensures,
       c.double_at.ensures,
       c.double_at-2.ensures,

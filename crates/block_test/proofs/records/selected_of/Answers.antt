@@ -5,4 +5,4 @@ use Rattle.block_test.proofs.records.selected_of.Goals as goal
 pub returns : goal.returns
 unfolding selected_of
 returns c =
-    rw (c.calculate_block.ensures, c.profiles_of.ensures, c.byte_at.ensures.0)
+    rw (c.calculate_block.ensures, c.profiles_of.ensures, c.from.ensures)

@@ -25,7 +25,7 @@ returns c =
     let p =
     (rw (
       c.double_at-t.ensures,
-      c.doubles_of-mv.ensures,
+      c.doubles_at-mv.ensures,
       c.count_at-m.ensures.0,
       c.count_at-n.ensures.0,
     ) at

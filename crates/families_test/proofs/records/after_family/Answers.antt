@@ -1,6 +1,7 @@
 -- `families_test::records::after_family` meets its contract. Assumes nothing.
 use mathlib.Core.Path.{◌≡◌, sym, ◌∙◌}
 use borrow.Author.Tests.{ne_eqb}
+use lib.ListN.{get_or}
 use Rattle.families_test.specs.Records.{after_family}
 use Rattle.families_test.proofs.StageLaws.{all_vel, acc1_vel_two_step, acc0_two_step}
 use Rattle.families_test.proofs.StageLaws.{vel_two_step, none_two_step}
@@ -11,7 +12,7 @@ pub returns-in-0 : goal.returns-in-0
 unfolding after_family
 returns-in-0 c =
     rw (
-      sym c.byte_at-family.ensures.0 ∙ c.in-0.is,
+      c.in-0.is,
       all_vel _ _ _ _ _ c.search.ensures,
       c.new-k.ensures,
       c.directed-m.ensures,
@@ -24,9 +25,8 @@ pub returns-in-1 : goal.returns-in-1
 unfolding after_family
 returns-in-1 c =
     rw (
-      sym c.byte_at-family.ensures.0 ∙ c.in-1.is,
+      c.in-1.is,
       c.after_acc0_acc1.ensures,
-      c.byte_at-return_after_found.ensures.0,
       c.new-k.ensures,
       c.directed-m.ensures,
       c.start_of-start.ensures,
@@ -38,9 +38,8 @@ pub returns-in-2 : goal.returns-in-2
 unfolding after_family
 returns-in-2 c =
     rw (
-      sym c.byte_at-family.ensures.0 ∙ c.in-2.is,
+      c.in-2.is,
       c.after_none_acc0_acc1.ensures,
-      c.byte_at-return_after_found.ensures.0,
       c.new-k.ensures,
       c.directed-m.ensures,
       c.start_of-start.ensures,
@@ -52,7 +51,7 @@ pub returns-in-3 : goal.returns-in-3
 unfolding after_family
 returns-in-3 c =
     rw (
-      sym c.byte_at-family.ensures.0 ∙ c.in-3.is,
+      c.in-3.is,
       acc1_vel_two_step _ _ _ _ _ c.search-in-3.ensures,
       c.new-k.ensures,
       c.directed-m.ensures,
@@ -65,7 +64,7 @@ pub returns-in-4 : goal.returns-in-4
 unfolding after_family
 returns-in-4 c =
     rw (
-      sym c.byte_at-family.ensures.0 ∙ c.in-4.is,
+      c.in-4.is,
       acc0_two_step _ _ _ _ _ c.search-in-4.ensures,
       c.new-k.ensures,
       c.directed-m.ensures,
@@ -78,7 +77,7 @@ pub returns-in-5 : goal.returns-in-5
 unfolding after_family
 returns-in-5 c =
     rw (
-      sym c.byte_at-family.ensures.0 ∙ c.in-5.is,
+      c.in-5.is,
       vel_two_step _ _ _ _ _ c.search-in-5.ensures,
       c.new-k.ensures,
       c.directed-m.ensures,
@@ -90,7 +89,7 @@ returns-in-5 c =
 pub returns-in_default : goal.returns-in_default
 unfolding after_family
 returns-in_default c =
-    let family = c.byte_at-family.result in
+    let family = get_or c.args.bytes.now 104 0 in
     let n0 : family ≡ 0 → ⊥ = search rules in
     let n1 : family ≡ 1 → ⊥ = search rules in
     let n2 : family ≡ 2 → ⊥ = search rules in
@@ -98,7 +97,6 @@ returns-in_default c =
     let n4 : family ≡ 4 → ⊥ = search rules in
     let n5 : family ≡ 5 → ⊥ = search rules in
     rw (
-      ← c.byte_at-family.ensures.0,
       ne_eqb _ _ n0,
       ne_eqb _ _ n1,
       ne_eqb _ _ n2,

@@ -1,12 +1,9 @@
 -- `families_test::records::start_of` meets its contract. Assumes nothing.
+use Rattle.encoding.specs.Encoding.{doubles_at}
 use Rattle.families_test.specs.Records.{start_of}
 use Rattle.families_test.proofs.records.start_of.Goals as goal
 
 pub returns : goal.returns
-unfolding start_of
+unfolding start_of doubles_at
 returns c =
-    rw (
-      c.double_at.ensures,
-      c.double_at-2.ensures,
-      c.double_at-3.ensures,
-    )
+    rw c.doubles_at.ensures

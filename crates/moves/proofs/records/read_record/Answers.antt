@@ -1,27 +1,30 @@
 -- `moves::records::read_record` meets its contract. Assumes nothing.
-use Rattle.moves.specs.Records.{record_of}
-use borrow.Author.Tests.{eq-eqb, ne_eqb}
+use Rattle.std.proofs.Common.{sym, ◌∙◌, arith}
+use Rattle.moves.specs.Records.{record_of, record_move}
 use Rattle.moves.proofs.RecordLaws.{is_long, reads}
-use mathlib.Core.Path.{sym, ◌∙◌}
 use Rattle.moves.proofs.records.read_record.Goals as goal
 
-pub returns-then-b-eq0 : goal.returns-then-b-eq0
+pub returns-then-is_empty : goal.returns-then-is_empty
 unfolding record_of
-returns-then-b-eq0 c = reads _ _ (rw (eq-eqb _ _ c.if-b-eq0.true))
+returns-then-is_empty c = reads _ _ (rw (sym c.is_empty.ensures ∙ c.if-is_empty.true))
 
 pub returns-then-is_malformed : goal.returns-then-is_malformed
 unfolding record_of
 returns-then-is_malformed c =
-    reads _ _ (rw (ne_eqb _ _ c.if-b-eq0.false, sym c.is_malformed.ensures ∙ c.if-is_malformed.true))
+    reads _ _ (rw (
+      sym c.is_empty.ensures ∙ c.if-is_empty.false,
+      sym c.is_malformed.ensures ∙ c.if-is_malformed.true,
+    ))
 
-pub move_of-requires : goal.move_of-requires
-move_of-requires c = is_long _ (sym c.is_malformed.ensures ∙ c.if-is_malformed.false)
+pub doubles_at-requires : goal.doubles_at-requires
+doubles_at-requires c = omega (arith, is_long _ (sym c.is_malformed.ensures ∙ c.if-is_malformed.false))
 
 pub returns : goal.returns
-unfolding record_of
+unfolding record_of record_move
 returns c =
     reads _ _ (rw (
-      ne_eqb _ _ c.if-b-eq0.false,
+      sym c.is_empty.ensures ∙ c.if-is_empty.false,
       sym c.is_malformed.ensures ∙ c.if-is_malformed.false,
-      c.move_of.ensures,
+      c.of.ensures,
+      c.doubles_at.ensures,
     ))

@@ -11,8 +11,5 @@ returns c =
       c.bounds_of.ensures,
       c.control_signs_of-signs.ensures,
       c.limits_of-reached.ensures,
-      c.byte_at.ensures.0,
-      c.byte_at-2.ensures.0,
-      c.byte_at-set_limits.ensures.0,
       c.double_at-jf.ensures,
     )
