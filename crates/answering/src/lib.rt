@@ -11,11 +11,14 @@ use std::io::Read;
 pub trait Answers<const MOST: usize> {
     type Record;
 
-    // Which line answers a record.
+    // Which bytes a record is, and which line answers it.
+    ghost bytes: { Self.Record → List ℕ };
+
     ghost answers: { Self.Record → List ℕ → Type 0 };
 
     // The next record, or nothing where the input ends before its end or it is none.
-    fn read<R: Read>(reader: &mut R) -> Option<Self::Record>;
+    fn read<R: Read>(reader: &mut R) -> Option<Self::Record>
+        ensures { IfSome result (λ x. Consumes (R.remaining reader.old) (R.remaining reader.new) (bytes x)) };
 
     fn line(of: Self::Record) -> ArrayVec<u8, MOST>
         ensures { answers of result.items };
