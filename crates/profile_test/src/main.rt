@@ -9,7 +9,7 @@ ghost use Rattle.io.specs.Counts.{IsPrefixLen};
 ghost use Rattle.profile_lines.specs.Text.{Puts};
 ghost use Rattle.profile_test.specs.Lines.{answer_of, line_of, line_length};
 
-use profile_check::Checked;
+use profile::Profile;
 use profile_lines::{PROFILE_WIDTH, put, put_profile_fields};
 use records::checked_of;
 
@@ -18,17 +18,18 @@ mod records; // records.rt: what the bytes of a record mean
 // The longest line: yes, the profile and a line feed.
 const LINE_LENGTH: usize = 3 + PROFILE_WIDTH + 1;
 
-fn put_answer(out: &mut [u8], at: usize, x: Checked) -> usize
+fn put_answer(out: &mut [u8], at: usize, x: Option<Profile>) -> usize
     requires { at + line_length ≤ length out.old }
     ensures { Puts out.old out.new at result (answer_of x) line_length }
 {
-    if x.ok {
-        let profile = x.profile;
-        let yes_end = put(out, at, b"yes");
-        let profile_end = put_profile_fields(out, yes_end, profile);
-        return put(out, profile_end, b"\n");
+    match x {
+        Some(profile) => {
+            let yes_end = put(out, at, b"yes");
+            let profile_end = put_profile_fields(out, yes_end, profile);
+            put(out, profile_end, b"\n")
+        }
+        None => put(out, at, b"no\n"),
     }
-    put(out, at, b"no\n")
 }
 
 // The line of a record, at the start of out, and how long it is.

@@ -6,7 +6,7 @@ ghost use Rattle.profile_test.specs.Records.{checked_of};
 
 use encoding::{double_at, doubles_at};
 use profile::{ControlSigns, Limits, Profile, ReachedLimits, Start, Target};
-use profile_check::{Checked, check};
+use profile_check::check;
 
 fn limits_of(n: u8) -> ReachedLimits
     ensures { result ≡ limits_of n }
@@ -70,7 +70,7 @@ fn bounds_of(bytes: &[u8; 147]) -> Limits
 }
 
 // What `check` answers.
-pub fn checked_of(bytes: &[u8; 147]) -> Checked
+pub fn checked_of(bytes: &[u8; 147]) -> Option<Profile>
     ensures { result ≡ checked_of bytes.now }
 {
     let signs = control_signs_of(bytes[145]);

@@ -4,16 +4,15 @@ use Rattle.profile_lines.proofs.PutLaws.{then, within}
 use Rattle.profile_test.specs.Lines.{answer_of}
 use Rattle.profile_test.proofs.put_answer.Goals as goal
 
-pub returns-then-x : goal.returns-then-x
+pub returns-in-Some : goal.returns-in-Some
 unfolding answer_of
-returns-then-x c =
-    rw c.if-x.true
+returns-in-Some c =
+    rw c.in-Some.is
     (then (then
     c.put-yes_end.ensures
     c.put_profile_fields-profile_end.ensures)
     c.put.ensures)
 
-pub returns : goal.returns
+pub returns-in-None : goal.returns-in-None
 unfolding answer_of
-returns c =
-    rw c.if-x.false (within (omega arith) c.put-2.ensures)
+returns-in-None c = rw c.in-None.is (within (omega arith) c.put-in-None.ensures)

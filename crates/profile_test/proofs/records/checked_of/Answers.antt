@@ -6,7 +6,7 @@ pub returns : goal.returns
 unfolding checked_of
 returns c =
     rw (
-      c.check.ensures,
+      c.check.ensures.answers,
       c.profile_of.ensures,
       c.bounds_of.ensures,
       c.control_signs_of-signs.ensures,
