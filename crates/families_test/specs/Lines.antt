@@ -1,9 +1,10 @@
 -- The line that answers a record: how many profiles were added, and each of them. Definitions only.
-use Rattle.std.specs.Prelude.{ℕ, ◌+◌, ◌*◌, ◌-◌, cond, ◌&&◌, List, [], ◌++◌, eqb, ltb, leb, get_or}
+use Rattle.std.specs.Prelude.{ℕ, ◌+◌, ◌*◌, ◌-◌, cond, ◌&&◌, List, [], ◌++◌, Option, Some, None, eqb, ltb, leb, get_or}
 use Rattle.profile_lines.specs.Text.{ascii}
 use Rattle.profile_lines.specs.Fields.{profile_fields, profile_width}
 use Rattle.decimals.specs.Decimal.{decimal, decimal_width}
-use Rattle.profile_check.specs.declared.Checked.{Checked}
+use Rattle.profile.specs.declared.Profile.{Profile}
+use Rattle.profile_check.specs.Check.{passed}
 use Rattle.candidates.specs.List.{slot}
 use Rattle.candidates.specs.declared.Candidates.{Candidates}
 use Rattle.families_test.specs.Records.{list_of, after_family, single_step}
@@ -23,8 +24,9 @@ added_line c n =
     ++ if_added c n 5
     ++ ascii "\n"
 
-unfoldable pub single_line : Checked → List ℕ
-single_line x = cond x.ok (ascii "1" ++ profile_fields x.profile ++ ascii "\n") (ascii "0\n")
+unfoldable pub single_line : Option Profile → List ℕ
+single_line (Some q) = ascii "1" ++ profile_fields q ++ ascii "\n"
+single_line None = ascii "0\n"
 
 -- ---- how many bytes each may take
 abbrev pub added_width : ℕ
@@ -37,5 +39,5 @@ single_width = 1 + profile_width + 1
 unfoldable pub line_of : List ℕ → List ℕ
 line_of b =
     let n = get_or b 107 0 in
-    cond (eqb (get_or b 104 0) 7) (single_line (single_step b))
+    cond (eqb (get_or b 104 0) 7) (single_line (passed (single_step b)))
     (cond (ltb 5 n) [] (added_line (after_family b (list_of b n)) n))

@@ -9,7 +9,7 @@ ghost use Rattle.families_test.specs.Lines.{if_added, added_line, single_line, l
 use crate::records::{after_family, list_of, single_step};
 use candidates::Candidates;
 use decimals::{DECIMAL_WIDTH, put_decimal};
-use profile_check::Checked;
+use profile::Profile;
 use profile_lines::{PROFILE_WIDTH, put, put_profile_fields};
 
 // The longest line: how many there are, six profiles and a line feed.
@@ -51,17 +51,18 @@ fn put_added(out: &mut [u8], at: usize, c: Candidates, counted: usize) -> usize
     put(out, end5, b"\n")
 }
 
-fn put_single(out: &mut [u8], at: usize, x: Checked) -> usize
+fn put_single(out: &mut [u8], at: usize, x: Option<Profile>) -> usize
     requires { at + single_width ≤ length out.old }
     ensures { Puts out.old out.new at result (single_line x) single_width }
 {
-    if x.ok {
-        let profile = x.profile;
-        let one_end = put(out, at, b"1");
-        let profile_end = put_profile_fields(out, one_end, profile);
-        return put(out, profile_end, b"\n");
+    match x {
+        Some(profile) => {
+            let one_end = put(out, at, b"1");
+            let profile_end = put_profile_fields(out, one_end, profile);
+            put(out, profile_end, b"\n")
+        }
+        None => put(out, at, b"0\n"),
     }
-    put(out, at, b"0\n")
 }
 
 // The line of a record, at the start of out, and how long it is.

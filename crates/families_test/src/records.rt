@@ -1,19 +1,17 @@
 // What the bytes of a record mean.
 
 ghost use Rattle.std.specs.Prelude.{◌≡◌, ◌<◌};
-ghost use Rattle.candidates.specs.List.{slot};
+ghost use Rattle.profile_check.specs.Check.{passed};
 ghost use Rattle.position_third_step1.specs.TimeAcc0Acc1.{time_acc0_acc1};
 ghost use Rattle.position_third_step1.specs.TimeAllNoneAcc0Acc1.{time_all_none_acc0_acc1};
 ghost use Rattle.search.specs.Choices.{towards_target};
-ghost use Rattle.search.specs.Stages.{is_found};
 ghost use Rattle.families_test.specs.Records.{start_of, target_of, limits_of, boundary_of, directed, list_of};
-ghost use Rattle.families_test.specs.Records.{called, after_family, single_step};
+ghost use Rattle.families_test.specs.Records.{called, after_family, single_step, first_found};
 
 use candidates::Candidates;
 use encoding::doubles_at;
 use phase_times::constants::Constants;
 use profile::{Limits, Profile, Start, Target};
-use profile_check::Checked;
 use search::{Kind, search};
 
 fn start_of(bytes: &[u8; 108]) -> Start
@@ -144,20 +142,20 @@ pub fn after_family(bytes: &[u8; 108], c: Candidates) -> Candidates
     }
 }
 
-// The first profile of a list, and whether it counts.
-fn first_found(c: Candidates) -> Checked
-    ensures { (result.ok ≡ is_found c) × (result.profile ≡ slot c 0) }
+// The first profile of a list, where it counts.
+fn first_found(c: Candidates) -> Option<Profile>
+    ensures { result ≡ passed (first_found c) }
 {
-    let profile = c.valid_profiles[0];
-    Checked {
-        ok: c.current_index > 0,
-        profile,
+    if c.current_index > 0 {
+        Some(c.valid_profiles[0])
+    } else {
+        None
     }
 }
 
 // The single-step path works on one profile.
-pub fn single_step(bytes: &[u8; 108]) -> Checked
-    ensures { result ≡ single_step bytes.now }
+pub fn single_step(bytes: &[u8; 108]) -> Option<Profile>
+    ensures { result ≡ passed (single_step bytes.now) }
 {
     let start = start_of(bytes);
     let target = target_of(bytes);

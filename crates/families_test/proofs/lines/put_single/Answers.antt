@@ -4,16 +4,15 @@ use Rattle.profile_lines.proofs.PutLaws.{then, within}
 use Rattle.families_test.specs.Lines.{single_line}
 use Rattle.families_test.proofs.lines.put_single.Goals as goal
 
-pub returns-then-x : goal.returns-then-x
+pub returns-in-Some : goal.returns-in-Some
 unfolding single_line
-returns-then-x c =
-    rw c.if-x.true
+returns-in-Some c =
+    rw c.in-Some.is
     (then (then
     c.put-one_end.ensures
     c.put_profile_fields-profile_end.ensures)
     c.put.ensures)
 
-pub returns : goal.returns
+pub returns-in-None : goal.returns-in-None
 unfolding single_line
-returns c =
-    rw c.if-x.false (within (omega arith) c.put-2.ensures)
+returns-in-None c = rw c.in-None.is (within (omega arith) c.put-in-None.ensures)
