@@ -1,7 +1,7 @@
--- `moves::replies::reply_to` meets its contract. Assumes nothing.
+-- `moves::replies::put_reply` meets its contract. Assumes nothing.
 use Rattle.std.proofs.Common.{refl, sym, ◌∙◌, arith}
 use Rattle.profile_lines.proofs.PutLaws.{nothing, within}
-use Rattle.moves.proofs.replies.reply_to.Goals as goal
+use Rattle.moves.proofs.replies.put_reply.Goals as goal
 
 pub returns-in-None : goal.returns-in-None
 returns-in-None g c =
