@@ -1,6 +1,6 @@
 // What the bytes of a record mean.
 
-ghost use Rattle.std.specs.Prelude.{◌≡◌, ◌<◌};
+ghost use Rattle.std.specs.Prelude.{◌≡◌, ◌<◌, ◌||◌, eqb, ltb, get_or};
 ghost use Rattle.profile_check.specs.Check.{passed};
 ghost use Rattle.position_third_step1.specs.TimeAcc0Acc1.{time_acc0_acc1};
 ghost use Rattle.position_third_step1.specs.TimeAllNoneAcc0Acc1.{time_all_none_acc0_acc1};
@@ -14,6 +14,7 @@ use phase_times::constants::Constants;
 use profile::{Limits, Profile, Start, Target};
 use search::{Kind, search};
 
+#[tactic(auto, unfolding(crate::specs::Records::start_of, encoding::specs::Encoding::doubles_at))]
 fn start_of(bytes: &[u8; 108]) -> Start
     ensures { result ≡ start_of bytes.now }
 {
@@ -21,6 +22,7 @@ fn start_of(bytes: &[u8; 108]) -> Start
     Start { p0, v0, a0 }
 }
 
+#[tactic(auto, unfolding(crate::specs::Records::target_of, encoding::specs::Encoding::doubles_at))]
 fn target_of(bytes: &[u8; 108]) -> Target
     ensures { result ≡ target_of bytes.now }
 {
@@ -28,6 +30,7 @@ fn target_of(bytes: &[u8; 108]) -> Target
     Target { pf, vf, af }
 }
 
+#[tactic(auto, unfolding(crate::specs::Records::limits_of, encoding::specs::Encoding::doubles_at))]
 fn limits_of(bytes: &[u8; 108]) -> Limits
     ensures { result ≡ limits_of bytes.now }
 {
@@ -53,6 +56,7 @@ fn boundary_of(bytes: &[u8; 108]) -> Profile
 }
 
 // The limits for the record's direction.
+#[tactic(auto, unfolding(crate::specs::Records::directed))]
 fn directed(bytes: &[u8; 108]) -> Limits
     ensures { result ≡ directed bytes.now }
 {
@@ -61,6 +65,13 @@ fn directed(bytes: &[u8; 108]) -> Limits
         return limits.swapped();
     }
     limits
+}
+
+// Whether a record has a line: the single-step path, or a list that counts five profiles at most.
+pub fn has_line(bytes: &[u8; 108]) -> bool
+    ensures { result ≡ (eqb (get_or bytes.now 104 0) 7 || ltb (get_or bytes.now 107 0) 6) }
+{
+    bytes[104] == 7 || bytes[107] < 6
 }
 
 // A list of which n empty profiles count, and the record's boundary behind them.
