@@ -6,6 +6,7 @@ ghost use Rattle.block.specs.declared.Block.{Block};
 ghost use Rattle.decimals.specs.Decimal.{decimal_width};
 ghost use Rattle.profile_lines.specs.Text.{Appends};
 ghost use Rattle.moves.specs.Lines.{plan_fields, full_fields, answer_with, line_with, frame_width, refusal_width};
+ghost use Rattle.moves.specs.Lines.{buffer_length};
 ghost use Rattle.moves.specs.Lines.{line_length, full_line_length};
 
 use crate::fields::{put_full_plan, put_plan, put_refusal};
@@ -46,8 +47,10 @@ pub trait Form<const N: usize> {
         requires { array_vec_len line.old + (LENGTH - frame_width) ≤ N }
         ensures { Appends line.old line.new (plan x) (LENGTH - frame_width) };
 
-    // A refusal is no longer than a plan.
+    // A refusal is no longer than a plan, and a line no longer than a buffer.
     ghost refusals_fit: { leb (frame_width + refusal_width) LENGTH ≡ true };
+
+    ghost lines_fit: { leb LENGTH buffer_length ≡ true };
 }
 
 // What document 01 has of a plan.
@@ -65,6 +68,8 @@ impl<const N: usize> Form<N> for Short {
     }
 
     ghost refusals_fit = { refl };
+
+    ghost lines_fit = { refl };
 }
 
 // All that a plan holds.
@@ -82,6 +87,8 @@ impl<const N: usize> Form<N> for Full {
     }
 
     ghost refusals_fit = { refl };
+
+    ghost lines_fit = { refl };
 }
 
 fn put_answer<F: Form<N>, const N: usize>(line: &mut ArrayVec<u8, N>, x: Answer)
