@@ -2,6 +2,8 @@
 ghost use Rattle.std.specs.Prelude.{◌<◌, ◌≤◌, ◌^◌};
 ghost use Rattle.cbrt.specs.Certificate.{RootBy};
 
+use words::wide::Wide;
+
 // Whether c is the pattern of the double nearest to the cube root of the normal double whose pattern is b: with
 // the exponent of the root, its significand n is certain where (2n - 1)³ and (2n + 1)³ enclose 8 times its cube.
 // A no says that c is no significand of that exponent or not well inside, and costs only time: the caller then finds the
@@ -23,5 +25,9 @@ pub fn is_root(b: u64, c: u64) -> bool
         return false;
     }
     let m = ((b & 0xf_ffff_ffff_ffff) + 0x10_0000_0000_0000) << (exponent % 3);
-    midpoints::cubic::between(2 * n, 0, m >> 1, (m & 1) << 53)
+    let target = Wide {
+        high: m >> 1,
+        low: (m & 1) << 53,
+    };
+    midpoints::cubic::between(2 * n, 0, target)
 }

@@ -3,10 +3,12 @@ use Prim.Native.Nat.{ℕ}
 use mathlib.Core.Path.{◌≡◌, refl, sym, ap, ◌∙◌}
 use mathlib.Core.Bool.{Bool, true, false, cond, ◌&&◌}
 use mathlib.Core.List.{List, [], ◌∷◌, ◌++◌}
+use Rattle.std.proofs.Common.{Option}
+use Rattle.profile.specs.declared.Profile.{Profile}
 use Rattle.profile.specs.declared.Start.{Start}
 use Rattle.profile.specs.declared.Target.{Target}
 use Rattle.profile.specs.declared.Limits.{Limits}
-use Rattle.profile_check.specs.declared.Checked.{Checked}
+use Rattle.profile_check.specs.Check.{Checked, passed}
 use Rattle.phase_times.specs.declared.constants.Constants.{Constants}
 use Rattle.trees.specs.Tree.{done, run, bind}
 use Rattle.trees.specs.Stages.{in_stages}
@@ -17,7 +19,7 @@ use Rattle.trees.proofs.StageLaws.{each_stage, first_stage, no_stages_end, stage
 use Rattle.trees.proofs.StageLaws.{first_stage_split}
 use Rattle.candidates.specs.Try.{passes}
 use Rattle.candidates.specs.declared.Try.{Try}
-use Rattle.candidates.specs.List.{slot, stored, added}
+use Rattle.candidates.specs.List.{stored, added}
 use Rattle.candidates.specs.declared.Candidates.{Candidates}
 use Rattle.position_third_step1.specs.CheckTree.{found, tries}
 use Rattle.position_third_step1.specs.Families.{shared_of, slots_of, reached_by, jerk_by, tries_of}
@@ -37,7 +39,7 @@ use Rattle.search.specs.Stages.{moving_stage}
 use Rattle.search.specs.Stages.{two_step_stage, stage_at, stages_from, is_found, search_of}
 use Rattle.search.proofs.FoundLaws.{added_found}
 use Rattle.search.specs.declared.stages.Kind.TheVariants.{SingleStep, Resting, Moving}
-use Rattle.families_test.specs.Records.{boundary_of, list_of, called}
+use Rattle.families_test.specs.Records.{first_found, boundary_of, list_of, called}
 
 -- ---- one stage is a call
 one_stage : (x : in-trees.Stage Try) (c : Candidates)
@@ -124,27 +126,24 @@ module _ (start : Start) (target : Target) (k : Constants) (m : Limits) (c : Can
         ∙ ap (λ (n : Limits). called true c (time_all_none_acc0_acc1 c start target k n true)) towards
 
 -- ---- the single-step path: the list's first profile, and whether it counts
-abbrev first_of : Candidates → Checked
-first_of c = record { ok = is_found c; profile = slot c 0 }
-
 single_step_found : (b : List ℕ) (xs : List Try)
-    → first_of (found (tries true (list_of b 0) xs)) ≡ run passes (first_accepted (boundary_of b) xs)
+    → first_found (found (tries true (list_of b 0) xs)) ≡ run passes (first_accepted (boundary_of b) xs)
 unfolding list_of added stored acceptance
 single_step_found b xs =
-    stops_related passes added acceptance (λ (c : Candidates) (d : Checked). first_of c ≡ d) (list_of b 0)
+    stops_related passes added acceptance (λ (c : Candidates) (d : Checked). first_found c ≡ d) (list_of b 0)
     (refusal (boundary_of b)) refl (λ x. refl) xs
 
 -- l is the list at first, c the one after the stage, x what is taken of it
 pub single_step_law : (b : List ℕ) (start : Start) (target : Target) (k : Constants) (m : Limits)
-    {c l : Candidates} {x : Checked}
+    {c l : Candidates} {x : Option Profile}
     → l ≡ list_of b 0 → c ≡ found (search_of start target k m (stages_from SingleStep 0 1) l)
-    → (x.ok ≡ is_found c) × (x.profile ≡ slot c 0)
-    → x ≡ run passes (time_all_single_step (boundary_of b) start target k m)
+    → x ≡ passed (first_found c)
+    → x ≡ passed (run passes (time_all_single_step (boundary_of b) start target k m))
 unfolding stages_from stage_at limits_for tries_of slots_of shared_of reached_by jerk_by single_step_tries list_of
 single_step_law b start target k m {c} {l} {x} fresh searched first =
-    let is-first : x ≡ first_of c = λ i. record { ok = first.0 i; profile = first.1 i } in
-    is-first
-    ∙ ap first_of (searched
+    first
+    ∙ ap passed
+    (ap first_found (searched
     ∙ ap (λ (z : Candidates). found (search_of start target k m (stages_from SingleStep 0 1) z)) fresh
     ∙ one_stage _ (list_of b 0))
-    ∙ single_step_found b (single_step_tries start target k m)
+    ∙ single_step_found b (single_step_tries start target k m))

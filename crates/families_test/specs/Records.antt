@@ -8,10 +8,11 @@ use Rattle.profile.specs.declared.Profile.{Profile}
 use Rattle.profile.specs.declared.Start.{Start}
 use Rattle.profile.specs.declared.Target.{Target}
 use Rattle.profile.specs.declared.Limits.{Limits}
-use Rattle.profile_check.specs.declared.Checked.{Checked}
+use Rattle.profile_check.specs.Check.{Checked}
 use Rattle.phase_times.specs.Constants.{constants_of}
 use Rattle.trees.specs.Tree.{run}
 use Rattle.candidates.specs.Try.{passes}
+use Rattle.candidates.specs.List.{slot}
 use Rattle.candidates.specs.declared.Candidates.{Candidates}
 use Rattle.position_third_step1.specs.CheckTree.{CheckTree, found}
 use Rattle.position_third_step1.specs.TimeAllVel.{time_all_vel}
@@ -77,3 +78,7 @@ after_family b c =
 -- the single-step path, which works on one profile
 unfoldable pub single_step : List ℕ → Checked
 single_step b = run passes (time_all_single_step (boundary_of b) (start_of b) (target_of b) (constants_of (start_of b) (target_of b) (limits_of b)) (directed b))
+
+-- a list's first profile, and whether it counts
+abbrev pub first_found : Candidates → Checked
+first_found c = record { ok = is_found c; profile = slot c 0 }

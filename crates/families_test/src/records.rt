@@ -1,21 +1,20 @@
 // What the bytes of a record mean.
 
-ghost use Rattle.std.specs.Prelude.{◌≡◌, ◌<◌};
-ghost use Rattle.candidates.specs.List.{slot};
+ghost use Rattle.std.specs.Prelude.{◌≡◌, ◌<◌, ◌||◌, eqb, ltb, get_or};
+ghost use Rattle.profile_check.specs.Check.{passed};
 ghost use Rattle.position_third_step1.specs.TimeAcc0Acc1.{time_acc0_acc1};
 ghost use Rattle.position_third_step1.specs.TimeAllNoneAcc0Acc1.{time_all_none_acc0_acc1};
 ghost use Rattle.search.specs.Choices.{towards_target};
-ghost use Rattle.search.specs.Stages.{is_found};
 ghost use Rattle.families_test.specs.Records.{start_of, target_of, limits_of, boundary_of, directed, list_of};
-ghost use Rattle.families_test.specs.Records.{called, after_family, single_step};
+ghost use Rattle.families_test.specs.Records.{called, after_family, single_step, first_found};
 
 use candidates::Candidates;
 use encoding::doubles_at;
 use phase_times::constants::Constants;
 use profile::{Limits, Profile, Start, Target};
-use profile_check::Checked;
 use search::{Kind, search};
 
+#[tactic(auto, unfolding(crate::specs::Records::start_of, encoding::specs::Encoding::doubles_at))]
 fn start_of(bytes: &[u8; 108]) -> Start
     ensures { result ≡ start_of bytes.now }
 {
@@ -23,6 +22,7 @@ fn start_of(bytes: &[u8; 108]) -> Start
     Start { p0, v0, a0 }
 }
 
+#[tactic(auto, unfolding(crate::specs::Records::target_of, encoding::specs::Encoding::doubles_at))]
 fn target_of(bytes: &[u8; 108]) -> Target
     ensures { result ≡ target_of bytes.now }
 {
@@ -30,6 +30,7 @@ fn target_of(bytes: &[u8; 108]) -> Target
     Target { pf, vf, af }
 }
 
+#[tactic(auto, unfolding(crate::specs::Records::limits_of, encoding::specs::Encoding::doubles_at))]
 fn limits_of(bytes: &[u8; 108]) -> Limits
     ensures { result ≡ limits_of bytes.now }
 {
@@ -55,6 +56,7 @@ fn boundary_of(bytes: &[u8; 108]) -> Profile
 }
 
 // The limits for the record's direction.
+#[tactic(auto, unfolding(crate::specs::Records::directed))]
 fn directed(bytes: &[u8; 108]) -> Limits
     ensures { result ≡ directed bytes.now }
 {
@@ -63,6 +65,13 @@ fn directed(bytes: &[u8; 108]) -> Limits
         return limits.swapped();
     }
     limits
+}
+
+// Whether a record has a line: the single-step path, or a list that counts five profiles at most.
+pub fn has_line(bytes: &[u8; 108]) -> bool
+    ensures { result ≡ (eqb (get_or bytes.now 104 0) 7 || ltb (get_or bytes.now 107 0) 6) }
+{
+    bytes[104] == 7 || bytes[107] < 6
 }
 
 // A list of which n empty profiles count, and the record's boundary behind them.
@@ -144,20 +153,20 @@ pub fn after_family(bytes: &[u8; 108], c: Candidates) -> Candidates
     }
 }
 
-// The first profile of a list, and whether it counts.
-fn first_found(c: Candidates) -> Checked
-    ensures { (result.ok ≡ is_found c) × (result.profile ≡ slot c 0) }
+// The first profile of a list, where it counts.
+fn first_found(c: Candidates) -> Option<Profile>
+    ensures { result ≡ passed (first_found c) }
 {
-    let profile = c.valid_profiles[0];
-    Checked {
-        ok: c.current_index > 0,
-        profile,
+    if c.current_index > 0 {
+        Some(c.valid_profiles[0])
+    } else {
+        None
     }
 }
 
 // The single-step path works on one profile.
-pub fn single_step(bytes: &[u8; 108]) -> Checked
-    ensures { result ≡ single_step bytes.now }
+pub fn single_step(bytes: &[u8; 108]) -> Option<Profile>
+    ensures { result ≡ passed (single_step bytes.now) }
 {
     let start = start_of(bytes);
     let target = target_of(bytes);

@@ -15,7 +15,7 @@ use Rattle.profile.specs.declared.Profile.{Profile}
 use Rattle.profile.specs.declared.Start.{Start}
 use Rattle.profile.specs.declared.Target.{Target}
 use Rattle.profile.specs.declared.Limits.{Limits}
-use Rattle.profile_check.specs.declared.Checked.{Checked}
+use Rattle.profile_check.specs.Check.{Checked}
 use Rattle.phase_times.specs.Constants.{constants_of}
 use Rattle.search.specs.Choices.{has_zero_limit, ends_at_rest, rests_at_target, towards_target}
 use Rattle.phase_times.specs.TimeAllSingleStep.{starts_moving, starts_accelerated}

@@ -15,7 +15,7 @@ use Rattle.profile.specs.declared.Start.{Start}
 use Rattle.profile.specs.declared.Target.{Target}
 use Rattle.profile.specs.declared.Limits.{Limits}
 use Rattle.profile.specs.declared.ReachedLimits.{ReachedLimits}
-use Rattle.profile_check.specs.declared.Checked.{Checked}
+use Rattle.profile_check.specs.Check.{Checked}
 use Rattle.trees.specs.Tree.{run, AtMost, AllNo, StopsAtYes}
 use Rattle.trees.specs.InTurn.{Bounded, none, one}
 use Rattle.trees.proofs.InTurnLaws.{finish_keeps, holds_after_no, finish_related, in_turn_at_most, in_turn_stops}

@@ -3,7 +3,7 @@ use Rattle.std.specs.Prelude.{Bool, true, false, cond, List, [], ◌∷◌, Floa
 use Rattle.doubles.specs.Constants.{0ᶠ}
 use Rattle.elementary.specs.Functions.{sqrt_of}
 use Rattle.profile.specs.declared.Profile.{Profile}
-use Rattle.profile_check.specs.declared.Checked.{Checked}
+use Rattle.profile_check.specs.Check.{Checked}
 use Rattle.profile.specs.declared.Start.{Start}
 use Rattle.profile.specs.declared.Target.{Target}
 use Rattle.profile.specs.declared.Limits.{Limits}

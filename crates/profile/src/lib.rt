@@ -13,7 +13,7 @@ mod lent; // lent.rt: the two functions that change a lent profile
 
 pub use layout::{DOUBLES, NAMES};
 
-#[derive(Clone, Copy)]
+#[derive(Clone, Copy, PartialEq, Eq)]
 pub enum ReachedLimits {
     Acc0Acc1Vel,
     Vel,
@@ -25,13 +25,13 @@ pub enum ReachedLimits {
     None,
 }
 
-#[derive(Clone, Copy)]
+#[derive(Clone, Copy, PartialEq, Eq)]
 pub enum Direction {
     UP,
     DOWN,
 }
 
-#[derive(Clone, Copy)]
+#[derive(Clone, Copy, PartialEq, Eq)]
 pub enum ControlSigns {
     UDDU,
     UDUD,

@@ -9,60 +9,30 @@ impl ReachedLimits {
     pub fn ends_in_vel(self) -> bool
         ensures { result ≡ ends_in_vel self }
     {
-        match self {
-            ReachedLimits::Acc0Acc1Vel => true,
-            ReachedLimits::Vel => true,
-            ReachedLimits::Acc0 => false,
-            ReachedLimits::Acc1 => false,
-            ReachedLimits::Acc0Acc1 => false,
-            ReachedLimits::Acc0Vel => true,
-            ReachedLimits::Acc1Vel => true,
-            ReachedLimits::None => false,
-        }
+        matches!(
+            self,
+            ReachedLimits::Acc0Acc1Vel
+                | ReachedLimits::Vel
+                | ReachedLimits::Acc0Vel
+                | ReachedLimits::Acc1Vel
+        )
     }
 
     pub fn is_acc0(self) -> bool
         ensures { result ≡ is_acc0 self }
     {
-        match self {
-            ReachedLimits::Acc0Acc1Vel => false,
-            ReachedLimits::Vel => false,
-            ReachedLimits::Acc0 => true,
-            ReachedLimits::Acc1 => false,
-            ReachedLimits::Acc0Acc1 => false,
-            ReachedLimits::Acc0Vel => false,
-            ReachedLimits::Acc1Vel => false,
-            ReachedLimits::None => false,
-        }
+        matches!(self, ReachedLimits::Acc0)
     }
 
     pub fn is_acc1(self) -> bool
         ensures { result ≡ is_acc1 self }
     {
-        match self {
-            ReachedLimits::Acc0Acc1Vel => false,
-            ReachedLimits::Vel => false,
-            ReachedLimits::Acc0 => false,
-            ReachedLimits::Acc1 => true,
-            ReachedLimits::Acc0Acc1 => false,
-            ReachedLimits::Acc0Vel => false,
-            ReachedLimits::Acc1Vel => false,
-            ReachedLimits::None => false,
-        }
+        matches!(self, ReachedLimits::Acc1)
     }
 
     pub fn is_acc0_acc1(self) -> bool
         ensures { result ≡ is_acc0_acc1 self }
     {
-        match self {
-            ReachedLimits::Acc0Acc1Vel => false,
-            ReachedLimits::Vel => false,
-            ReachedLimits::Acc0 => false,
-            ReachedLimits::Acc1 => false,
-            ReachedLimits::Acc0Acc1 => true,
-            ReachedLimits::Acc0Vel => false,
-            ReachedLimits::Acc1Vel => false,
-            ReachedLimits::None => false,
-        }
+        matches!(self, ReachedLimits::Acc0Acc1)
     }
 }

@@ -22,7 +22,7 @@ use Rattle.profile_check.specs.Check.{a_within, v_within, a_rows_pass, v_rows_pa
 use Rattle.profile_check.specs.Check.{checked}
 use Rattle.profile.specs.declared.Profile.{Profile}
 use Rattle.profile.specs.declared.Limits.{Limits}
-use Rattle.profile_check.specs.declared.Checked.{Checked}
+use Rattle.profile_check.specs.Check.{Checked}
 use Rattle.profile.specs.declared.ReachedLimits.{ReachedLimits}
 use Rattle.profile.specs.declared.ControlSigns.{ControlSigns}
 

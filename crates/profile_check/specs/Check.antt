@@ -1,6 +1,6 @@
 -- The check of a profile: its conditions, in document 01's order, and the profile that it gives back. Definitions only.
 -- Every comparison stands with the Rust's sides: with a NaN it is false, so it may not be turned round.
-use Rattle.std.specs.Prelude.{ℕ, zero, suc, ◌+◌, Bool, true, false, cond, not, ◌&&◌, ◌||◌, List, Float}
+use Rattle.std.specs.Prelude.{ℕ, zero, suc, ◌+◌, Bool, true, false, cond, not, ◌&&◌, ◌||◌, List, Option, Some, None, Float}
 use Rattle.doubles.specs.Operators.{◌-ᶠ◌, ◌*ᶠ◌, ◌/ᶠ◌, -ᶠ◌, ◌<ᶠ◌, ◌≤ᶠ◌, at}
 use Rattle.doubles.specs.Constants.{0ᶠ, 2ᶠ, eps}
 use Rattle.doubles.specs.Functions.{absᶠ}
@@ -15,7 +15,6 @@ use Rattle.profile.specs.declared.Target.{Target}
 use Rattle.profile.specs.declared.Limits.{Limits}
 use Rattle.profile_rows.specs.declared.Rows.{Rows}
 use Rattle.profile.specs.declared.Bounds.{Bounds}
-use Rattle.profile_check.specs.declared.Checked.{Checked}
 use Rattle.profile.specs.declared.ReachedLimits.{ReachedLimits}
 use Rattle.profile.specs.declared.ControlSigns.{ControlSigns}
 
@@ -105,10 +104,24 @@ filled q t signs reached set-limits jf m =
       control_signs = signs;
     }
 
--- `check`: the filled profile, or a no and the profile that was given
+-- what a check says, and the profile as it is after it
+pub record Checked : Type 0 where
+  pub ok : Bool
+  pub profile : Profile
+
+-- the filled profile, or a no and the profile that was given
 unfoldable pub checked : Profile → ControlSigns → ReachedLimits → Bool → Float → Limits → Checked
 checked q signs reached set-limits jf m =
     cond
     (accepted (start_of q) (target_of q) q.t signs reached set-limits jf m)
     (record { ok = true; profile = filled q q.t signs reached set-limits jf m })
     (record { ok = false; profile = q })
+
+-- `check`: the profile where it is accepted
+abbrev pub passed : Checked → Option Profile
+passed c = cond c.ok (Some c.profile) None
+
+-- the profile q after such an answer
+abbrev pub profile_after : Profile → Option Profile → Profile
+profile_after q (Some r) = r
+profile_after q None = q

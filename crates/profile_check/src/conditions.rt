@@ -10,6 +10,7 @@ use doubles::EPSILON;
 use profile::{Bounds, Profile, ReachedLimits, Target};
 use profile_rows::{Row, sums_of};
 
+#[tactic(auto, unfolding(crate::specs::Check::times_pass))]
 pub fn times_pass(t: [f64; 7]) -> bool
     ensures { result ≡ times_pass t }
 {
@@ -23,6 +24,7 @@ pub fn times_pass(t: [f64; 7]) -> bool
 }
 
 // A phase in which the name says that a limit is held is not below EPSILON.
+#[tactic(auto, unfolding(crate::specs::Check::phases_pass))]
 pub fn phases_pass(reached: ReachedLimits, t: [f64; 7]) -> bool
     ensures { result ≡ phases_pass reached t }
 {
@@ -32,6 +34,7 @@ pub fn phases_pass(reached: ReachedLimits, t: [f64; 7]) -> bool
         & !((reached.is_acc1() | both) & (t[5] < EPSILON))
 }
 
+#[tactic(auto, unfolding(crate::specs::Check::sum_passes))]
 pub fn sum_passes(longest: f64, t: [f64; 7]) -> bool
     ensures { result ≡ sum_passes longest t }
 {
@@ -40,6 +43,7 @@ pub fn sum_passes(longest: f64, t: [f64; 7]) -> bool
 }
 
 // In a phase from acceleration a to a_next: the speed at zero acceleration, if it is met, is within the bounds.
+#[tactic(auto, unfolding(crate::specs::Check::zero_passes))]
 fn zero_passes(a: f64, a_next: f64, v: f64, j: f64, b: Bounds) -> bool
     ensures { result ≡ zero_passes a a_next v j b }
 {

@@ -1,21 +1,15 @@
-// The check. A try that it refuses writes no profile: `accepts` says whether, and `filled` fills the profile in.
+// The check. A try that it refuses writes no profile: `accepts` says whether, and `filled` fills the profile in. What a
+// check takes stays apart, as the Rust's functions take it.
 #![tactic(auto)]
 
 ghost use Rattle.std.specs.Prelude.{◌≡◌, false};
-ghost use Rattle.profile_check.specs.Check.{accepted, filled, checked};
+ghost use Rattle.profile_check.specs.Check.{accepted, filled, checked, passed, profile_after};
 
 mod conditions; // conditions.rt: the conditions of the check
 
 use conditions::{end_passes, phases_pass, rows_pass, sum_passes, times_pass, zeros_pass};
 use profile::{ControlSigns, Limits, Profile, ReachedLimits, Start, Target};
 use profile_rows::{Row, jerks_of, middle_row, outer_row, row_after, rows_of, sums_of};
-
-// Whether a profile was accepted, and the profile: filled in, or as it was given.
-#[derive(Clone, Copy)]
-pub struct Checked {
-    pub ok: bool,
-    pub profile: Profile,
-}
 
 // Whether the times t, from the start, meet every condition of the check. The cheapest and most telling come first.
 pub fn accepts(
@@ -60,6 +54,7 @@ pub fn accepts(
 }
 
 // The boundary of q with the times t and what the check fills in.
+#[tactic(auto, unfolding(crate::specs::Check::filled))]
 pub fn filled(
     q: Profile,
     t: [f64; 7],
@@ -96,7 +91,8 @@ pub fn filled(
     }
 }
 
-// The profile with what the check fills in where it is accepted, and else the profile as it was given.
+// The profile with what the check fills in, where it is accepted.
+#[tactic(auto, unfolding(crate::specs::Check::checked))]
 pub fn check(
     q: Profile,
     control_signs: ControlSigns,
@@ -104,29 +100,23 @@ pub fn check(
     set_limits: bool,
     jf: f64,
     limits: Limits,
-) -> Checked
-    ensures { result ≡ checked q control_signs reached set_limits jf limits }
+) -> Option<Profile>
+    ensures answers { result ≡ passed (checked q control_signs reached set_limits jf limits) }
+    ensures leaves { profile_after q result ≡ (checked q control_signs reached set_limits jf limits).profile }
 {
-    let t = q.t;
-    let start = q.start();
-    let target = q.target();
     if accepts(
-        start,
-        target,
-        t,
+        q.start(),
+        q.target(),
+        q.t,
         control_signs,
         reached,
         set_limits,
         jf,
         limits,
     ) {
-        let profile = filled(q, t, control_signs, reached, set_limits, jf, limits);
-        Checked { ok: true, profile }
+        Some(filled(q, q.t, control_signs, reached, set_limits, jf, limits))
     } else {
-        Checked {
-            ok: false,
-            profile: q,
-        }
+        None
     }
 }
 
@@ -137,8 +127,9 @@ pub fn check_with_timing(
     reached: ReachedLimits,
     jf: f64,
     limits: Limits,
-) -> Checked
-    ensures { result ≡ checked q control_signs reached false jf limits }
+) -> Option<Profile>
+    ensures answers { result ≡ passed (checked q control_signs reached false jf limits) }
+    ensures leaves { profile_after q result ≡ (checked q control_signs reached false jf limits).profile }
 {
     check(q, control_signs, reached, false, jf, limits)
 }

@@ -117,12 +117,20 @@ pub fn hex(x: f64) -> [u8; 16]
     hex16(f64_to_bits_with_nan(x))
 }
 
+// A double's digits with a space in front.
+pub fn put_double<const N: usize>(line: &mut ArrayVec<u8, N>, x: f64)
+    requires { array_vec_len line.old + double_width ≤ N }
+    ensures { Appends line.old line.new (field (hex x)) double_width }
+{
+    put_field(line, &hex(x));
+}
+
 pub fn put_doubles<const N: usize>(line: &mut ArrayVec<u8, N>, doubles: &[f64])
     requires { array_vec_len line.old + double_width * length doubles.now ≤ N }
     ensures { Appends line.old line.new (double_fields doubles.now) (double_width * length doubles.now) }
 {
     for &x in doubles {
-        put_field(line, &hex(x));
+        put_double(line, x);
     }
 }
 

@@ -16,7 +16,7 @@ use Rattle.profile.specs.Boundary.{start_of, target_of}
 use Rattle.profile_rows.specs.Rows.{jerk_if, jerks, rows_of, stored_if}
 use Rattle.profile_check.specs.Check.{accepted, filled, checked}
 use Rattle.profile.specs.declared.Profile.{Profile}
-use Rattle.profile_check.specs.declared.Checked.{Checked}
+use Rattle.profile_check.specs.Check.{Checked}
 use Rattle.profile.specs.declared.Limits.{Limits}
 use Rattle.profile.specs.declared.ControlSigns.{ControlSigns}
 use Rattle.profile.specs.declared.ControlSigns.TheVariants.{UDDU, UDUD}

@@ -21,7 +21,7 @@ use Rattle.profile_check.specs.Check.{times_pass, phases_pass, sum_passes, zero_
 use Rattle.profile_check.specs.Check.{rows_pass}
 use Rattle.profile_check.specs.Check.{accepted, filled, checked}
 use Rattle.profile.specs.declared.Profile.{Profile}
-use Rattle.profile_check.specs.declared.Checked.{Checked}
+use Rattle.profile_check.specs.Check.{Checked}
 use Rattle.profile.specs.declared.Target.{Target}
 use Rattle.profile.specs.declared.Limits.{Limits}
 use Rattle.profile.specs.declared.ControlSigns.TheVariants.{UDDU}

@@ -25,7 +25,7 @@ use Rattle.profile_check.specs.Check.{accepted, filled, checked}
 use Rattle.profile.specs.declared.Profile.{Profile}
 use Rattle.profile.specs.declared.Start.{Start}
 use Rattle.profile.specs.declared.Target.{Target}
-use Rattle.profile_check.specs.declared.Checked.{Checked}
+use Rattle.profile_check.specs.Check.{Checked}
 use Rattle.profile.specs.declared.ControlSigns.TheVariants.{UDDU}
 use Rattle.profile.specs.declared.ReachedLimits.{ReachedLimits}
 use Rattle.profile.specs.declared.ReachedLimits.TheVariants.{Acc1, Acc0Acc1}

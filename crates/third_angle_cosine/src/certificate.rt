@@ -54,6 +54,5 @@ pub fn is_cosine(sign: u64, m: u64, c: u64) -> bool
     if c > 0x3ff0_0000_0000_0000 {
         return false;
     }
-    let e = target(sign, m);
-    midpoints::cubic::between(2 * (c - 0x3fe0_0000_0000_0000), 3, e.high, e.low)
+    midpoints::cubic::between(2 * (c - 0x3fe0_0000_0000_0000), 3, target(sign, m))
 }

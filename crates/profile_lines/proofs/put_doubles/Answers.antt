@@ -1,6 +1,6 @@
 -- `profile_lines::put_doubles` meets its contract: the first of the doubles are appended. Assumes nothing.
-use Rattle.std.proofs.Common.{◌+◌, ◌*◌, arith}
-use Rattle.profile_lines.specs.Fields.{double_fields, double_width}
+use Rattle.std.proofs.Common.{arith}
+use Rattle.profile_lines.specs.Fields.{double_fields}
 use Rattle.profile_lines.proofs.PutLaws.{nothing, then, within, one_more_double}
 use Rattle.profile_lines.proofs.put_doubles.Goals as goal
 
@@ -11,5 +11,5 @@ loop-x-init g c = nothing
 pub loop-x-preserved : goal.loop-x-preserved
 loop-x-preserved g c =
     let l = c.loop-x in
-    rw (c.hex.ensures, one_more_double c.args.doubles.now l.x-index _ (omega arith)) at
-    (within {k = double_width * (l.x-index + 1)} (omega arith) (then l.invariant c.put_field.ensures))
+    within (omega arith)
+    (rw (one_more_double c.args.doubles.now l.x-index _ (omega arith)) at (then l.invariant c.put_double.ensures))

@@ -29,7 +29,7 @@ returns-then-c-gt4607182418800017408 c = record {
 
 pub between-requires : goal.between-requires
 between-requires c =
-    (omega arith, omega arith, omega arith, c.target-e.ensures.high_fits, c.target-e.ensures.low_fits)
+    (omega arith, omega arith, omega arith, c.target.ensures.high_fits, c.target.ensures.low_fits)
 
 -- there is one number 1 + t
 one_plus : (sign t e f : ℕ) → IsOnePlus sign t e → IsOnePlus sign t f → e ≡ f
@@ -50,7 +50,7 @@ returns c =
           (2 ^ 52 + h)
           (certified sign c.args.m c.requires.0 c.requires.2 _ h c.if-m-lt4363988038922010624.false
           (omega arith) (omega arith)
-          c.target-e.ensures.value (c.between.ensures.yes e));
+          c.target.ensures.value (c.between.ensures.yes e));
       sure = λ t l g e o w. c.between.ensures.sure
-          (subst (WellBetween 3 (2 * h)) (one_plus sign _ e _ o c.target-e.ensures.value) w);
+          (subst (WellBetween 3 (2 * h)) (one_plus sign _ e _ o c.target.ensures.value) w);
     }
