@@ -18,8 +18,8 @@ use std::io::Read;
 const ANSWER_WIDTH: usize = 7 + 1 + LINE_LENGTH;
 
 #[tactic(auto, unfolding(crate::specs::Lines::word_of))]
-fn put_word(line: &mut ArrayVec<u8, ANSWER_WIDTH>, goes_on: bool)
-    requires { array_vec_len line.old + word_width ≤ ANSWER_WIDTH }
+fn put_word<const N: usize>(line: &mut ArrayVec<u8, N>, goes_on: bool)
+    requires { array_vec_len line.old + word_width ≤ N }
     ensures { Appends line.old line.new (word_of goes_on) word_width }
 {
     if goes_on {
@@ -30,8 +30,8 @@ fn put_word(line: &mut ArrayVec<u8, ANSWER_WIDTH>, goes_on: bool)
 }
 
 #[tactic(auto, unfolding(crate::specs::Lines::rest_of))]
-fn put_rest(line: &mut ArrayVec<u8, ANSWER_WIDTH>, reply: &[u8])
-    requires { array_vec_len line.old + (length reply.now + 1) ≤ ANSWER_WIDTH }
+fn put_rest<const N: usize>(line: &mut ArrayVec<u8, N>, reply: &[u8])
+    requires { array_vec_len line.old + (length reply.now + 1) ≤ N }
     ensures { Appends line.old line.new (rest_of reply.now) (length reply.now + 1) }
 {
     if reply.is_empty() {
@@ -41,14 +41,15 @@ fn put_rest(line: &mut ArrayVec<u8, ANSWER_WIDTH>, reply: &[u8])
     }
 }
 
-struct Replies;
+// What is left of an input.
+struct Left;
 
-impl Answers<ANSWER_WIDTH> for Replies {
+impl Answers<ANSWER_WIDTH> for Left {
     type Record = ArrayVec<u8, 255>;
 
-    ghost bytes = { λ x. length x.items ∷ x.items };
+    ghost bytes = { λ b. length b.items ∷ b.items };
 
-    ghost answers = { λ x text. text ≡ answer_of x.items };
+    ghost answers = { λ b text. text ≡ answer_of b.items };
 
     fn read<R: Read>(reader: &mut R) -> Option<ArrayVec<u8, 255>> {
         let [count]: [u8; 1] = read_array(reader)?;
@@ -58,7 +59,7 @@ impl Answers<ANSWER_WIDTH> for Replies {
     #[tactic(auto, unfolding(crate::specs::Lines::answer_of))]
     fn line(of: ArrayVec<u8, 255>) -> ArrayVec<u8, ANSWER_WIDTH> {
         let mut reply = ArrayVec::new();
-        let goes_on = reply_to::<Short, LINE_LENGTH>(1, &of, &mut reply);
+        let goes_on = reply_to::<Short>(1, &of, &mut reply);
         let mut line = ArrayVec::new();
         put_word(&mut line, goes_on);
         put_rest(&mut line, &reply);
@@ -72,5 +73,5 @@ fn constants()
 {}
 
 fn main(rt: HostRuntime) {
-    answer_records::<Replies, _, _>(&rt);
+    answer_records::<Left, _, _>(&rt);
 }
