@@ -7,9 +7,8 @@ use native.Mathlib.Omega.{arith}
 use mathlib.Core.Bool.{true, not}
 use lib.Dec.{T, lit≤}
 use lib.Pow.{pow_pos}
-use lib.Ieee.{Float, nan, binary64, of_bits, to_bits, fits, is_nan, ne, div}
+use lib.Ieee.{Float, nan, inf, fin, binary64, of_bits, to_bits, fits, is_nan, div}
 use lib.Ieee.Bits.{of_bits-to_bits, to_bits-lt}
-use lib.Ieee.Compare.{differs_from_itself}
 use Rattle.bits.specs.Fields.{pattern_units}
 use Rattle.bits.proofs.Patterns.{pattern_most, units_lt, units_above}
 use Rattle.elementary.specs.Functions.{third_angle_cosine_of, third_angle_sine_of}
@@ -24,11 +23,11 @@ use Rattle.angle.proofs.Values.{signed_value}
 abbrev pub Both : Float → Float → Float → Type 0
 Both t c s = (c ≡ third_angle_cosine_of t) × (s ≡ third_angle_sine_of t)
 
-pub not_a_number : (t : Float) → ne t t ≡ true → Both t t t
-unfolding third_angle_cosine_of third_angle_sine_of
-not_a_number t h =
-    let e : t ≡ nan = differs_from_itself t (subst T (sym h) tt) in
-    subst (λ (y : Float). Both y y y) (sym e) (refl, refl)
+pub not_a_number : (t : Float) → is_nan t ≡ true → Both t t t
+unfolding third_angle_cosine_of third_angle_sine_of is_nan
+not_a_number nan h = (refl, refl)
+not_a_number (inf s) h = cc
+not_a_number (fin s m e) h = cc
 
 none : div binary64 (of_bits binary64 0) (of_bits binary64 0) ≡ nan
 unfolding div of_bits

@@ -1,15 +1,19 @@
 -- What an argument that is taken apart says of the double t. Definitions only.
-use Rattle.std.specs.Prelude.{◌≡◌, ℕ, ◌+◌, ◌-◌, ◌*◌, ◌/◌, ◌%◌, ◌^◌, ◌≤◌, ◌<◌, Float}
+use Rattle.std.specs.Prelude.{◌≡◌, ℕ, ◌+◌, ◌-◌, ◌*◌, ◌/◌, ◌%◌, ◌^◌, Float}
 use Rattle.std.specs.Float.{binary64}
 use Rattle.std.specs.Float.Ieee.{of_bits}
 use Rattle.elementary.specs.Functions.{third_angle_cosine_of, third_angle_sine_of}
+use Rattle.angle.specs.declared.pattern.Pattern.{Pattern}
 use Rattle.angle.specs.declared.Argument.{Argument}
 use Rattle.angle.specs.declared.Argument.TheVariants.{Known, Inside}
 
+-- the double by its sign bit and the pattern of its magnitude
+abbrev pub double_of : Pattern → Float
+double_of t = of_bits binary64 (t.sign * 2 ^ 63 + t.m)
+
 abbrev pub Taken : Float → Argument → Type 0
 Taken t (Known cos sin) = (cos ≡ third_angle_cosine_of t) × (sin ≡ third_angle_sine_of t)
-Taken t (Inside sign m) =
-    (sign < 2) × (0x3c80_0000_0000_0000 ≤ m) × (m < 0x3ff0_0000_0000_0000) × (t ≡ of_bits binary64 (sign * 2 ^ 63 + m))
+Taken t (Inside i) = t ≡ double_of i
 
 -- the magnitude of a pattern m from 2 ^ -75 up to 1, in units of 2 ^ -128
 abbrev pub size_of : ℕ → ℕ

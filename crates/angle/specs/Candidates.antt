@@ -1,27 +1,25 @@
 -- The estimates of the cosine and the sine, operation by operation. Definitions only.
-use Rattle.std.specs.Prelude.{◌≡◌, ℕ, ◌-◌, ◌/◌, cond, Float}
+use Rattle.std.specs.Prelude.{◌≡◌, cond, Float}
 use Rattle.std.specs.Int.Bits.{bit_and}
 use Rattle.std.specs.Float.{binary64}
-use Rattle.std.specs.Float.Ieee.{of_bits, to_bits}
-use Rattle.doubles.specs.Operators.{◌+ᶠ◌, ◌-ᶠ◌, ◌*ᶠ◌, ◌/ᶠ◌, ◌<ᶠ◌, ◌!=ᶠ◌}
+use Rattle.std.specs.Float.Ieee.{of_bits, to_bits, is_nan}
+use Rattle.doubles.specs.Operators.{◌+ᶠ◌, ◌-ᶠ◌, ◌*ᶠ◌, ◌/ᶠ◌, ◌<ᶠ◌}
 use Rattle.doubles.specs.Constants.{½ᶠ, 1ᶠ, 2ᶠ, 3ᶠ, 6ᶠ, 24ᶠ}
+use Rattle.doubles.specs.Guess.{inverse_root_guess}
 use Rattle.doubles.specs.Splitting.{leading_digits}
 
 -- ---- 1 / √x
-
-unfoldable pub first_guess : ℕ → Float
-first_guess b = of_bits binary64 (0x5fe6_eb50_c7b5_37a9 - b / 2)
 
 -- 1.5
 unfoldable pub newton_step : Float → Float → Float
 newton_step h y = y *ᶠ (of_bits binary64 0x3ff8_0000_0000_0000 -ᶠ h *ᶠ y *ᶠ y)
 
 unfoldable pub inverse_root : Float → Float
-unfolding first_guess newton_step
+unfolding newton_step
 inverse_root x =
-    cond (x !=ᶠ x) x
+    cond (is_nan x) x
     (newton_step (x *ᶠ ½ᶠ)
-    (newton_step (x *ᶠ ½ᶠ) (newton_step (x *ᶠ ½ᶠ) (first_guess (bit_and (to_bits binary64 x) 0x7fff_ffff_ffff_ffff)))))
+    (newton_step (x *ᶠ ½ᶠ) (newton_step (x *ᶠ ½ᶠ) (inverse_root_guess (bit_and (to_bits binary64 x) 0x7fff_ffff_ffff_ffff)))))
 
 -- ---- v = u + d
 

@@ -1,20 +1,12 @@
 // Estimates of the cosine and the sine of a third of an angle in float arithmetic, from the angle's cosine t. Nothing
 // is claimed of their distance from the exact ones: exact comparison certifies them or not. (For a t spread evenly about
 // one sine in a hundred thousand is not certified, and fewer cosines.)
-ghost use Rattle.std.specs.Prelude.{◌≡◌, ◌<◌, ◌^◌};
-ghost use Rattle.angle.specs.Candidates.{first_guess, newton_step, inverse_root, polynomial_of, excess_of};
+ghost use Rattle.std.specs.Prelude.{◌≡◌};
+ghost use Rattle.angle.specs.Candidates.{newton_step, inverse_root, polynomial_of, excess_of};
 ghost use Rattle.angle.specs.Candidates.{correction_of, Estimated, cosine_candidate, near_root, large_sine};
 ghost use Rattle.angle.specs.Candidates.{small_sine, sine_candidate};
 
 use doubles::leading_digits;
-
-// 1 / √x to within 3.5 % for the pattern b of a normal double x: half the exponent, and a straight line for the significand.
-fn first_guess(b: u64) -> f64
-    requires { b < 2 ^ 63 }
-    ensures { result ≡ first_guess b }
-{
-    f64::from_bits(0x5fe6_eb50_c7b5_37a9 - (b >> 1))
-}
 
 // A step of Newton's method for 1 / √(2h).
 fn newton(h: f64, y: f64) -> f64
@@ -27,11 +19,11 @@ fn newton(h: f64, y: f64) -> f64
 fn inverse_root(x: f64) -> f64
     ensures { result ≡ inverse_root x }
 {
-    if x != x {
+    if x.is_nan() {
         return x;
     }
     let h = x * 0.5;
-    let y = first_guess(f64::to_bits(x) & 0x7fff_ffff_ffff_ffff);
+    let y = doubles::inverse_root_guess(f64::to_bits(x) & 0x7fff_ffff_ffff_ffff);
     newton(h, newton(h, newton(h, y)))
 }
 
@@ -88,12 +80,6 @@ pub fn estimated(t: f64) -> Estimate
     }
 }
 
-pub fn cosine_candidate(u: f64, d: f64) -> f64
-    ensures { result ≡ cosine_candidate u d }
-{
-    0.5 + 0.5 * u + 0.5 * d
-}
-
 // √(a + e), where e is small, and y is near 1 / √a.
 fn near_root(a: f64, e: f64, y: f64) -> f64
     ensures { result ≡ near_root a e y }
@@ -103,17 +89,7 @@ fn near_root(a: f64, e: f64, y: f64) -> f64
     s + f / (2.0 * s + f * (0.5 * y))
 }
 
-// √(3 - 2v - v²) / 2. The rounding error of the main term is part of the small one.
-fn large_sine(u: f64, d: f64, square: f64, rest: f64) -> f64
-    ensures { result ≡ large_sine u d square rest }
-{
-    let b = 3.0 - 2.0 * u;
-    let a = b - square;
-    let e = b - a - square - rest - d * (2.0 + 2.0 * u + d);
-    0.5 * near_root(a, e, inverse_root(a))
-}
-
-// The same for a t near 1, where 3 - 2v - v² has few digits: a series, and a step of Newton's method for
+// The sine for a t near 1, where 3 - 2v - v² has few digits: a series, and a step of Newton's method for
 // 9s² - 24s⁴ + 16s⁶ = 2w - w² with w for 1 - t.
 fn small_sine(t: f64) -> f64
     ensures { result ≡ small_sine t }
@@ -130,11 +106,30 @@ fn small_sine(t: f64) -> f64
     s + f / (2.0 * s * (9.0 - 48.0 * q * (1.0 - q)) + f * y * (1.5 - 24.0 * q))
 }
 
-pub fn sine_candidate(t: f64, u: f64, d: f64, square: f64, rest: f64) -> f64
-    ensures { result ≡ sine_candidate t u d square rest }
-{
-    if t > 0.9921875 {
-        return small_sine(t);
+impl Estimate {
+    pub fn cosine(self) -> f64
+        ensures { result ≡ cosine_candidate self.u self.d }
+    {
+        0.5 + 0.5 * self.u + 0.5 * self.d
     }
-    large_sine(u, d, square, rest)
+
+    // √(3 - 2v - v²) / 2. The rounding error of the main term is part of the small one.
+    fn large_sine(self) -> f64
+        ensures { result ≡ large_sine self.u self.d self.square self.rest }
+    {
+        let b = 3.0 - 2.0 * self.u;
+        let a = b - self.square;
+        let e = b - a - self.square - self.rest - self.d * (2.0 + 2.0 * self.u + self.d);
+        0.5 * near_root(a, e, inverse_root(a))
+    }
+
+    // The sine for the t of the estimate.
+    pub fn sine(self, t: f64) -> f64
+        ensures { result ≡ sine_candidate t self.u self.d self.square self.rest }
+    {
+        if t > 0.9921875 {
+            return small_sine(t);
+        }
+        self.large_sine()
+    }
 }

@@ -135,12 +135,6 @@ not_nan nan h = absurd (subst T h tt)
 not_nan (inf s) h = tt
 not_nan (fin s m e) h = tt
 
-pub not_nan_by_eq : (x : Float) → eq x x ≡ true → T (not (is_nan x))
-unfolding eq is_nan
-not_nan_by_eq nan h = subst T (sym h) tt
-not_nan_by_eq (inf s) h = tt
-not_nan_by_eq (fin s m e) h = tt
-
 -- with its sign taken off, the pattern of a double that is no NaN is at most the infinity's
 pub pattern_most : (x : Float) → T (fits binary64 x) → T (not (is_nan x))
     → to_bits binary64 x % 2 ^ 63 ≤ 0x7ff0_0000_0000_0000

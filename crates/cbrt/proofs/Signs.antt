@@ -7,9 +7,8 @@ use native.Mathlib.Omega.{arith}
 use mathlib.Core.Bool.{Bool, true, false, not, cond}
 use lib.Dec.{T, eqb}
 use borrow.Author.Tests.{le-leb, lt-leb}
-use lib.Ieee.{Float, nan, inf, binary64, odd, neg, of_fields, of_bits, to_bits, fits, is_nan, ne}
+use lib.Ieee.{Float, nan, inf, fin, binary64, odd, neg, of_fields, of_bits, to_bits, fits, is_nan}
 use lib.Ieee.Bits.{of_bits-to_bits, to_bits-lt}
-use lib.Ieee.Compare.{differs_from_itself}
 use Rattle.bits.proofs.Patterns.{pattern_most, sign_cases}
 use Rattle.elementary.specs.Functions.{cbrt_of}
 use Rattle.cbrt.proofs.Roots.{neg_odd, cbrt_neg}
@@ -88,7 +87,8 @@ module _ (x : Float) (held : T (fits binary64 x)) where
   unfolding cbrt_of of_bits
   infinite_root n h = own_root 0x7ff0_0000_0000_0000 refl (le_antisymm (pattern_most x held n) h)
 
-pub nan_root : (x : Float) → ne x x ≡ true → x ≡ cbrt_of x
-unfolding cbrt_of
-nan_root x h =
-    let e : x ≡ nan = differs_from_itself x (subst T (sym h) tt) in subst (λ (y : Float). y ≡ cbrt_of y) (sym e) refl
+pub nan_root : (x : Float) → is_nan x ≡ true → x ≡ cbrt_of x
+unfolding cbrt_of is_nan
+nan_root nan h = refl
+nan_root (inf s) h = cc
+nan_root (fin s m e) h = cc

@@ -13,14 +13,14 @@ mod digits;
 pub fn cbrt(x: f64) -> f64
     ensures { result ≡ cbrt_of x }
 {
-    if x != x {
+    if x.is_nan() {
         return x;
     }
     let b = f64::to_bits(x);
     let m = b & 0x7fff_ffff_ffff_ffff;
     if (m >= 0x10_0000_0000_0000) & (m < 0x7ff0_0000_0000_0000) {
         let root = candidate::candidate(f64::from_bits(m), m);
-        if root == root {
+        if !root.is_nan() {
             if certificate::is_root(m, f64::to_bits(root)) {
                 if b == m {
                     return root;
@@ -36,7 +36,7 @@ pub fn cbrt(x: f64) -> f64
 pub fn cbrt_by_digits(x: f64) -> f64
     ensures { result ≡ cbrt_of x }
 {
-    if x != x {
+    if x.is_nan() {
         return x;
     }
     let b = f64::to_bits(x);

@@ -3,7 +3,7 @@ use mathlib.Core.Path.{◌≡◌, refl, sym, ap, ◌∙◌, subst}
 use Prim.Native.Nat.{ℕ, zero, suc, ◌+◌, ◌*◌, ◌^◌, ◌≤◌, ◌<◌}
 use native.Mathlib.Nat.{mul-pos, mul-le-mul_right, zero-lt-suc}
 use native.Mathlib.Omega.{arith}
-use mathlib.Core.Bool.{Bool, true, false, not, ◌&&◌, beq, cond}
+use mathlib.Core.Bool.{Bool, true, false, not, ◌&&◌, beq}
 use lib.IntN.{ℤ, pos}
 use lib.Dec.{T, eqb, eqb_refl}
 use lib.Pow.{pow_pos}
@@ -31,14 +31,6 @@ nan_test nan = refl
 nan_test (inf s) = ap not (same_sign s)
 nan_test (fin s m e) =
     rw (is_true (eqb (m * up e * down e) (m * up e * down e)) (eqb_refl (m * up e * down e)), same_sign s)
-
--- of a number and another, `min` and `max` give the other where their test b says so
-module _ (x y : Float) (b : Bool) (number : (x !=ᶠ x) ≡ false) where
-  pub the_other : b ≡ true → y ≡ cond (is_nan x) y (cond b y x)
-  the_other e = rw (← nan_test, number, e)
-
-  pub the_number : b ≡ false → x ≡ cond (is_nan x) y (cond b y x)
-  the_number e = rw (← nan_test, number, e)
 
 -- ---- the absolute value
 zero_is : 0ᶠ ≡ fin false 0 (pos 0)

@@ -4,6 +4,7 @@ pub mod Operators
 pub mod Constants
 pub mod Functions
 pub mod Splitting
+pub mod Guess
 pub mod Exact
 pub mod Signed
 pub mod Value

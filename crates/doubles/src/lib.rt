@@ -6,8 +6,10 @@ ghost use Rattle.std.specs.Float.Ieee.Scale.{finite};
 ghost use Rattle.doubles.specs.Constants.{eps};
 ghost use Rattle.doubles.specs.Functions.{absᶠ, minᶠ, maxᶠ};
 
+mod guess; // guess.rt: a first guess of 1 / √x
 mod splitting; // splitting.rt: a double's leading digits
 
+pub use guess::inverse_root_guess;
 pub use splitting::leading_digits;
 
 // f64::EPSILON, document 01's EPS: 2^-52.
@@ -25,21 +27,21 @@ pub fn abs(x: f64) -> f64
     if x <= 0.0 { 0.0 - x } else { x }
 }
 
-// As Rust's `min`: of a number and a NaN the number.
+// As Rust's `min`: of a number and a NaN the number, and of 0 and -0 the first, where the library's promises either.
 pub fn min(x: f64, y: f64) -> f64
     ensures { result ≡ minᶠ x y }
 {
-    if x != x {
+    if x.is_nan() {
         return y;
     }
     if y < x { y } else { x }
 }
 
-// As Rust's `max`: of a number and a NaN the number.
+// As Rust's `max`: of a number and a NaN the number, and of 0 and -0 the first, where the library's promises either.
 pub fn max(x: f64, y: f64) -> f64
     ensures { result ≡ maxᶠ x y }
 {
-    if x != x {
+    if x.is_nan() {
         return y;
     }
     if x < y { y } else { x }

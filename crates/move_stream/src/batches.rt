@@ -4,7 +4,7 @@ ghost use Rattle.moves.specs.Lines.{line_with};
 ghost use Rattle.move_stream.specs.Batches.{Answered};
 
 use arrayvec::ArrayVec;
-use moves::{Form, RECORD_LENGTH, reply_to};
+use moves::{Form, RECORD_LENGTH, put_reply};
 
 // How many records are answered, and whether another may follow these.
 #[derive(Clone, Copy)]
@@ -33,7 +33,7 @@ pub fn replies_to<F: Form<N>, const N: usize>(
         {
             return batch;
         }
-        batch.goes_on = reply_to::<F, N>(n + batch.count as u64, record, lines);
+        batch.goes_on = put_reply::<F, N>(n + batch.count as u64, record, lines);
         batch.count += 1;
     }
     batch

@@ -6,7 +6,7 @@ ghost use Rattle.std.proofs.Math.Seq.{paste};
 
 use crate::batches::replies_to;
 use arrayvec::ArrayVec;
-use moves::{Form, RECORD_LENGTH, reply_to};
+use moves::{Form, RECORD_LENGTH, put_reply};
 use std::io::Read;
 
 const BUFFER_LENGTH: usize = 65536;
@@ -67,7 +67,7 @@ impl Unanswered {
         n: u64,
     ) {
         lines.clear();
-        reply_to::<F, BUFFER_LENGTH>(n, &self.buffer[..self.length], lines);
+        put_reply::<F, BUFFER_LENGTH>(n, &self.buffer[..self.length], lines);
         let _ = rt.write_all(lines.as_slice());
     }
 }

@@ -84,10 +84,6 @@ full_width = ok_width + double_width + profile_width + interval_width + interval
 abbrev pub frame_width : ℕ
 frame_width = decimal_width + 1
 
--- what the programs write at once
-abbrev pub buffer_length : ℕ
-buffer_length = 65536
-
 abbrev pub line_length : ℕ
 line_length = decimal_width + plan_width + 1
 

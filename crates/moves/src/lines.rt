@@ -6,7 +6,6 @@ ghost use Rattle.block.specs.declared.Block.{Block};
 ghost use Rattle.decimals.specs.Decimal.{decimal_width};
 ghost use Rattle.profile_lines.specs.Text.{Appends};
 ghost use Rattle.moves.specs.Lines.{plan_fields, full_fields, answer_with, line_with, frame_width, refusal_width};
-ghost use Rattle.moves.specs.Lines.{buffer_length};
 ghost use Rattle.moves.specs.Lines.{line_length, full_line_length};
 
 use crate::fields::{put_full_plan, put_plan, put_refusal};
@@ -47,10 +46,10 @@ pub trait Form<const N: usize> {
         requires { array_vec_len line.old + (LENGTH - frame_width) ≤ N }
         ensures { Appends line.old line.new (plan x) (LENGTH - frame_width) };
 
-    // A refusal is no longer than a plan, and a line no longer than a buffer.
+    // A refusal is no longer than a plan, and no form's line longer than that of all that a plan holds.
     ghost refusals_fit: { leb (frame_width + refusal_width) LENGTH ≡ true };
 
-    ghost lines_fit: { leb LENGTH buffer_length ≡ true };
+    ghost lines_fit: { leb LENGTH full_line_length ≡ true };
 }
 
 // What document 01 has of a plan.
@@ -102,7 +101,7 @@ fn put_answer<F: Form<N>, const N: usize>(line: &mut ArrayVec<u8, N>, x: Answer)
     }
 }
 
-// The line for the answer to record number n.
+// Appends the line for the answer to record number n.
 pub fn put_line<F: Form<N>, const N: usize>(line: &mut ArrayVec<u8, N>, n: u64, x: Answer)
     requires { array_vec_len line.old + F.LENGTH ≤ N }
     ensures { Appends line.old line.new (line_with F.plan n x) F.LENGTH }
@@ -110,6 +109,16 @@ pub fn put_line<F: Form<N>, const N: usize>(line: &mut ArrayVec<u8, N>, n: u64, 
     put_decimal(line, n);
     put_answer::<F, N>(line, x);
     put(line, b"\n");
+}
+
+// The line for the answer to record number n.
+pub fn line<F: Form<FULL_LINE_LENGTH>>(n: u64, x: Answer) -> ArrayVec<u8, FULL_LINE_LENGTH>
+    ensures items { result.items ≡ line_with F.plan n x }
+    ensures within { array_vec_len result ≤ F.LENGTH }
+{
+    let mut line = ArrayVec::new();
+    put_line::<F, FULL_LINE_LENGTH>(&mut line, n, x);
+    line
 }
 
 // The lengths of the code are those of the definitions.

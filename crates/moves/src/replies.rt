@@ -7,7 +7,7 @@ ghost use Rattle.moves.specs.Records.{record_of};
 ghost use Rattle.moves.specs.Lines.{line_with};
 ghost use Rattle.moves.specs.Replies.{reply_of, goes_on_after};
 
-use crate::lines::{Form, put_line};
+use crate::lines::{FULL_LINE_LENGTH, Form, put_line};
 use crate::records::read_record;
 use arrayvec::ArrayVec;
 use block::Answer;
@@ -15,7 +15,7 @@ use planner::plan;
 
 // Appends the line that answers record number n, whose bytes are the input's next, and says whether another record may
 // follow.
-pub fn reply_to<F: Form<N>, const N: usize>(
+pub fn put_reply<F: Form<N>, const N: usize>(
     n: u64,
     bytes: &[u8],
     line: &mut ArrayVec<u8, N>,
@@ -35,4 +35,18 @@ pub fn reply_to<F: Form<N>, const N: usize>(
             true
         }
     }
+}
+
+// The line that answers record number n takes the place of what line had; likewise.
+pub fn reply_to<F: Form<FULL_LINE_LENGTH>>(
+    n: u64,
+    bytes: &[u8],
+    line: &mut ArrayVec<u8, FULL_LINE_LENGTH>,
+) -> bool
+    ensures line_is { line.new.items ≡ reply_of (line_with F.plan) n (record_of bytes.now) }
+    ensures within { array_vec_len line.new ≤ F.LENGTH }
+    ensures goes_on_value { result ≡ goes_on_after (record_of bytes.now) }
+{
+    line.clear();
+    put_reply::<F, FULL_LINE_LENGTH>(n, bytes, line)
 }

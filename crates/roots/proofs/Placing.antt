@@ -1,13 +1,19 @@
 -- One root put among those before it, and the reading order that this gives. Assumes nothing.
-use mathlib.Core.Path.{◌≡◌, refl, sym, ap, ◌∙◌}
-use Prim.Native.Nat.{ℕ, zero, suc, ◌≤◌, ◌<◌}
+use mathlib.Core.Path.{◌≡◌, refl, ap}
+use Prim.Native.Nat.{ℕ, zero, suc, ◌+◌, ◌-◌, ◌≤◌, ◌<◌, min}
 use native.Mathlib.Numerals.{add-one}
 use native.Mathlib.Omega.{arith}
-use mathlib.Core.Bool.{true, false, cond}
+use mathlib.Core.Bool.{true, false}
 use mathlib.Core.List.{List, [], ◌∷◌, ◌++◌}
 use lib.Ieee.{Float, nan}
+use Rattle.std.specs.Prelude.{Option, Some, None}
+use Rattle.std.specs.List.{position, prefix_len}
+use borrow.Author.Tests.{ltb-false, ltb-true}
+use lib.Dec.{ltb}
+use mathlib.Core.Bool.{not}
+use Rattle.std.proofs.lemmas.List.Quantifiers.{position-Some}
 use lib.ListN.{length, take, drop, drop_of_length-le}
-use lib.Seq.{take_at, get_or_at, take_all, drop-append-add}
+use lib.Seq.{take_at, get_or_at, take_all, drop-append-add, drop-cons, take-suc, length-take-le}
 use Rattle.doubles.specs.Operators.{◌<ᶠ◌, at}
 use Rattle.roots.specs.List.{placed, placed_at, sorted_from}
 use Rattle.doubles.proofs.CondLaws.{by_cases}
@@ -22,55 +28,73 @@ by_values P h (a ∷ b ∷ c ∷ []) e = absurd (omega arith)
 by_values P h (a ∷ b ∷ c ∷ d ∷ []) e = h a b c d
 by_values P h (a ∷ b ∷ c ∷ d ∷ x ∷ l) e = absurd (omega arith)
 
--- ---- what the code makes of four values, by its tests
+-- ---- where a root goes: before the first that it is below, or behind all
+module _ (x : Float) where
+  abbrev place : List Float → Option ℕ
+  place = position (λ y. x <ᶠ y)
 
-abbrev pub with_second : List Float → List Float
-with_second v = cond (at v 1 <ᶠ at v 0) (at v 1 ∷ at v 0 ∷ at v 2 ∷ at v 3 ∷ []) v
+  before : (l : List Float) (j : ℕ) → j < length l → (x <ᶠ at l j) ≡ true
+      → ((k : ℕ) → k < j → (x <ᶠ at l k) ≡ false) → placed x l ≡ take j l ++ x ∷ drop j l
+  unfolding placed
+  before [] j h t f = absurd (omega arith)
+  before (y ∷ ys) zero h t f = rw t
+  before (y ∷ ys) (suc j) h t f =
+      rw (f 0 (omega arith)) (ap (λ l. y ∷ l) (before ys j (omega arith) t (λ k l. f (suc k) (omega arith))))
 
-abbrev pub with_third : List Float → List Float
-with_third v =
-    cond (at v 2 <ᶠ at v 0) (at v 2 ∷ at v 0 ∷ at v 1 ∷ at v 3 ∷ [])
-    (cond (at v 2 <ᶠ at v 1) (at v 0 ∷ at v 2 ∷ at v 1 ∷ at v 3 ∷ []) v)
+  behind : (l : List Float) → length l ≤ prefix_len (λ y. not (x <ᶠ y)) l → placed x l ≡ l ++ x ∷ []
+  unfolding placed
+  behind [] h = refl
+  behind (y ∷ ys) h = by_cases (x <ᶠ y)
+      (λ i. absurd (let none : suc (length ys) ≤ 0 = rw i at h in omega arith))
+      (λ i. let more : suc (length ys) ≤ 1 + prefix_len (λ y. not (x <ᶠ y)) ys = rw i at h in
+      rw i (ap (λ l. y ∷ l) (behind ys (omega arith))))
 
-abbrev pub with_fourth : List Float → List Float
-with_fourth v =
-    cond (at v 3 <ᶠ at v 0) (at v 3 ∷ at v 0 ∷ at v 1 ∷ at v 2 ∷ [])
-    (cond (at v 3 <ᶠ at v 1) (at v 0 ∷ at v 3 ∷ at v 1 ∷ at v 2 ∷ [])
-    (cond (at v 3 <ᶠ at v 2) (at v 0 ∷ at v 1 ∷ at v 3 ∷ at v 2 ∷ []) v))
+  pub placed_before : (l : List Float) (j : ℕ) → place l ≡ Some j → placed x l ≡ take j l ++ x ∷ drop j l
+  placed_before l j e =
+      let p = position-Some (λ y. x <ᶠ y) l j nan e in
+      before l j p.0 p.1 p.2
 
-pub second_placed : (v : List Float) → length v ≡ 4 → placed_at 1 v ≡ with_second v
-unfolding placed_at placed
-second_placed = by_values (λ v. placed_at 1 v ≡ with_second v) (λ a b c d. by_cases (b <ᶠ a) (λ i. rw i) (λ i. rw i))
+  pub placed_behind : (l : List Float) → place l ≡ None → placed x l ≡ l ++ x ∷ []
+  placed_behind l e =
+      let n = prefix_len (λ y. not (x <ᶠ y)) l in
+      by_cases (ltb n (length l)) (λ t. absurd (let z : Some n ≡ None = rw t at e in cc))
+      (λ f. behind l (ltb-false n (length l) f))
 
-pub third_placed : (v : List Float) → length v ≡ 4 → placed_at 2 v ≡ with_third v
-unfolding placed_at placed
-third_placed =
-    by_values (λ v. placed_at 2 v ≡ with_third v)
-    (λ a b c d. by_cases (c <ᶠ a) (λ i. rw i) (λ i. by_cases (c <ᶠ b) (λ j. rw (i, j)) (λ j. rw (i, j))))
+-- value i put before value j of four, as a rotation of those between has it
+abbrev Turned : ℕ → ℕ → List Float → Type 0
+Turned i j v =
+    let between = take (i + 1 - j) (drop j v) in
+    let n = length between - 1 in
+    take j v ++ ((drop n between ++ take n between) ++ drop (i + 1 - j) (drop j v))
+    ≡ (take j (take i v) ++ at v i ∷ drop j (take i v)) ++ drop (suc i) v
 
-fourth_placed : (v : List Float) → length v ≡ 4 → placed_at 3 v ≡ with_fourth v
-unfolding placed_at placed
-fourth_placed =
-    by_values (λ v. placed_at 3 v ≡ with_fourth v)
-    (λ a b c d. by_cases (d <ᶠ a) (λ i. rw i)
-    (λ i. by_cases (d <ᶠ b) (λ j. rw (i, j)) (λ j. by_cases (d <ᶠ c) (λ k. rw (i, j, k)) (λ k. rw (i, j, k)))))
+turned_of : (a b c d : Float) (i j : ℕ) → i < 4 → j < i → Turned i j (a ∷ b ∷ c ∷ d ∷ [])
+turned_of a b c d zero j h g = absurd (omega arith)
+turned_of a b c d (suc zero) zero h g = refl
+turned_of a b c d (suc (suc zero)) zero h g = refl
+turned_of a b c d (suc (suc zero)) (suc zero) h g = refl
+turned_of a b c d (suc (suc (suc zero))) zero h g = refl
+turned_of a b c d (suc (suc (suc zero))) (suc zero) h g = refl
+turned_of a b c d (suc (suc (suc zero))) (suc (suc zero)) h g = refl
+turned_of a b c d (suc zero) (suc j) h g = absurd (omega arith)
+turned_of a b c d (suc (suc zero)) (suc (suc j)) h g = absurd (omega arith)
+turned_of a b c d (suc (suc (suc zero))) (suc (suc (suc j))) h g = absurd (omega arith)
+turned_of a b c d (suc (suc (suc (suc i)))) j h g = absurd (omega arith)
 
--- the fourth value before the first, the second or the third, or where it is
-module _ (v : List Float) (four : length v ≡ 4) where
-  pub fourth_first : (at v 3 <ᶠ at v 0) ≡ true → at v 3 ∷ at v 0 ∷ at v 1 ∷ at v 2 ∷ [] ≡ placed_at 3 v
-  fourth_first i = rw (fourth_placed v four, i)
+pub turned : (v : List Float) → length v ≡ 4 → (i j : ℕ) → i < 4 → j < i → Turned i j v
+turned v e i j h g = by_values (Turned i j) (λ a b c d. turned_of a b c d i j h g) v e
 
-  pub fourth_second : (at v 3 <ᶠ at v 0) ≡ false → (at v 3 <ᶠ at v 1) ≡ true
-      → at v 0 ∷ at v 3 ∷ at v 1 ∷ at v 2 ∷ [] ≡ placed_at 3 v
-  fourth_second i j = rw (fourth_placed v four, i, j)
-
-  pub fourth_third : (at v 3 <ᶠ at v 0) ≡ false → (at v 3 <ᶠ at v 1) ≡ false → (at v 3 <ᶠ at v 2) ≡ true
-      → at v 0 ∷ at v 1 ∷ at v 3 ∷ at v 2 ∷ [] ≡ placed_at 3 v
-  fourth_third i j k = rw (fourth_placed v four, i, j, k)
-
-  pub fourth_last : (at v 3 <ᶠ at v 0) ≡ false → (at v 3 <ᶠ at v 1) ≡ false → (at v 3 <ᶠ at v 2) ≡ false
-      → v ≡ placed_at 3 v
-  fourth_last i j k = rw (fourth_placed v four, i, j, k)
+pub kept : (v : List Float) → length v ≡ 4 → (i : ℕ) → i < 4 → v ≡ (take i v ++ at v i ∷ []) ++ drop (suc i) v
+kept v e i h = by_values (λ v. v ≡ (take i v ++ at v i ∷ []) ++ drop (suc i) v) (λ a b c d. four a b c d i h) v e
+  where
+    four : (a b c d : Float) (i : ℕ) → i < 4
+        → a ∷ b ∷ c ∷ d ∷ []
+        ≡ (take i (a ∷ b ∷ c ∷ d ∷ []) ++ at (a ∷ b ∷ c ∷ d ∷ []) i ∷ []) ++ drop (suc i) (a ∷ b ∷ c ∷ d ∷ [])
+    four a b c d zero h = refl
+    four a b c d (suc zero) h = refl
+    four a b c d (suc (suc zero)) h = refl
+    four a b c d (suc (suc (suc zero))) h = refl
+    four a b c d (suc (suc (suc (suc i)))) h = absurd (omega arith)
 
 -- ---- the reading order, one root after the other
 
@@ -88,35 +112,43 @@ next_placed l x rest n e = rw (get_or_at l x rest nan n e, take_at l (x ∷ rest
     past : drop (suc n) (l ++ x ∷ rest) ≡ rest
     past = rw (← add-one n, ← e) (drop-append-add l (x ∷ rest) 1)
 
--- the first n of four values in order, as the code has them: n below 2, 2, 3, and 4 or more
-pub few_sorted : (n : ℕ) → n < 2 → (v : List Float) → length v ≡ 4 → sorted_from [] (take n v) ++ drop n v ≡ v
-unfolding sorted_from placed
-few_sorted zero h v e = refl
-few_sorted (suc zero) h v e = by_values (λ v. sorted_from [] (take 1 v) ++ drop 1 v ≡ v) (λ a b c d. refl) v e
-few_sorted (suc (suc n)) h v e = absurd (omega arith)
+pub sorted_length : (done l : List Float) → length (sorted_from done l) ≡ length done + length l
+unfolding sorted_from
+sorted_length done [] = omega arith
+sorted_length done (x ∷ l) = omega (arith, sorted_length (placed x done) l, length_placed x done)
 
-pub two_sorted : (n : ℕ) → n ≡ 2 → (v : List Float) → length v ≡ 4 → sorted_from [] (take n v) ++ drop n v ≡ placed_at 1 v
-unfolding sorted_from placed_at placed
-two_sorted n i v e = rw i (by_values (λ v. sorted_from [] (take 2 v) ++ drop 2 v ≡ placed_at 1 v) (λ a b c d. refl) v e)
+sorted_next : (done l : List Float) (x : Float) → sorted_from done (l ++ x ∷ []) ≡ placed x (sorted_from done l)
+unfolding sorted_from
+sorted_next done [] x = refl
+sorted_next done (y ∷ l) x = sorted_next (placed y done) l x
 
-pub three_sorted : (n : ℕ) → n ≡ 3 → (v : List Float) → length v ≡ 4
-    → sorted_from [] (take n v) ++ drop n v ≡ placed_at 2 (placed_at 1 v)
-unfolding sorted_from placed_at placed
-three_sorted n i v e =
-    rw i
-    (by_values (λ v. sorted_from [] (take 3 v) ++ drop 3 v ≡ placed_at 2 (placed_at 1 v))
-    (λ a b c d. sym (next_placed (placed b (placed a [])) c (d ∷ []) 2 (length_placed b (placed a [])))) v e)
+-- the first i values in order, and the others as they were
+abbrev pub so_far : ℕ → List Float → List Float
+so_far i v = sorted_from [] (take i v) ++ drop i v
 
-pub four_sorted : (n : ℕ) → 4 ≤ n → (v : List Float) → length v ≡ 4
-    → sorted_from [] (take n v) ++ drop n v ≡ placed_at 3 (placed_at 2 (placed_at 1 v))
-four_sorted n h v e =
-    rw (take_all n v (omega arith), drop_of_length-le v {i = n} (omega arith))
-    (by_values (λ v. sorted_from [] v ++ [] ≡ placed_at 3 (placed_at 2 (placed_at 1 v)))
-    (λ a b c d. unfold sorted_from placed_at placed in written a b c d) v e)
-  where
-    written : (a b c d : Float)
-        → placed d (placed c (placed b (a ∷ []))) ++ [] ≡ placed_at 3 (placed_at 2 (placed b (a ∷ []) ++ c ∷ d ∷ []))
-    written a b c d =
-        let two = placed b (a ∷ []) in
-        let e : length two ≡ 2 = length_placed b (a ∷ []) in
-        rw (next_placed two c (d ∷ []) 2 e, next_placed (placed c two) d [] 3 (length_placed c two ∙ ap suc e))
+pub none_so_far : (v : List Float) → v ≡ so_far 0 v
+unfolding sorted_from
+none_so_far v = refl
+
+pub next_so_far : (v : List Float) (i : ℕ) → i < length v → placed_at i (so_far i v) ≡ so_far (i + 1) v
+next_so_far v i h =
+    let as_many : length (sorted_from [] (take i v)) ≡ i =
+    omega (arith, sorted_length [] (take i v), length-take-le i v (omega arith)) in
+    rw (drop-cons v i nan h, next_placed _ (at v i) (drop (suc i) v) i as_many, add-one i, take-suc v i nan h)
+    (rw (sorted_next [] (take i v) (at v i)))
+
+-- all of those counted, of four
+pub all_so_far : (v : List Float) → length v ≡ 4 → (n i : ℕ) → i ≡ min n 4 → so_far i v ≡ so_far n v
+all_so_far v e n i h = by_cases (ltb n 4)
+    (λ t. let few : n < 4 = ltb-true n 4 t in
+    let same : i ≡ n = omega arith in
+    rw same)
+    (λ f. let more : 4 ≤ n = ltb-false n 4 f in
+    let four : i ≡ 4 = omega arith in
+    rw (
+      four,
+      take_all n v (omega arith),
+      take_all 4 v (omega arith),
+      drop_of_length-le v {i = n} (omega arith),
+      drop_of_length-le v {i = 4} (omega arith),
+    ))

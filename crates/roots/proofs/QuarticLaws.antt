@@ -10,8 +10,14 @@ use Rattle.elementary.specs.Functions.{sqrt_of, cbrt_of}
 use Rattle.roots.specs.declared.list.Roots.{Roots}
 use Rattle.roots.specs.List.{no_roots, inserted}
 use Rattle.roots.specs.Reading.{inserted_all}
-use Rattle.roots.specs.Quartic.{with_quadratic, roots_by_factors, quartic_of}
-use Rattle.doubles.proofs.CondLaws.{cond_of}
+use Rattle.roots.specs.Quartic.{with_quadratic, larger, roots_by_factors, quartic_of}
+use Rattle.doubles.proofs.CondLaws.{by_cases, cond_of}
+
+-- a double zero counts once: beside itself it isn't larger
+pub double_zero : (x y : Float) → larger (larger x y) y ≡ larger x y
+unfolding larger
+double_zero x y = by_cases (absᶠ x <ᶠ absᶠ y) (λ i. rw i (by_cases (absᶠ y <ᶠ absᶠ y) (λ j. rw j) (λ j. rw j)))
+    (λ i. rw (i, i))
 
 -- the list that some insertions make
 pub data Made : Roots → Type 0 where

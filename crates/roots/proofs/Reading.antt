@@ -17,7 +17,8 @@ use Rattle.roots.specs.List.{no_roots, inserted, sorted_from, roots_of, ascendin
 use Rattle.doubles.specs.Value.{AtLeastZero}
 use Rattle.roots.specs.Reading.{inserted_all, non_negative, equal_to, Ascending, none}
 use Rattle.doubles.proofs.CondLaws.{by_cases}
-use Rattle.roots.proofs.Sorting.{Members, empty, add, sorted_length, sorted_ascends, sorted_stable}
+use Rattle.roots.proofs.Sorting.{Members, empty, add, sorted_ascends, sorted_stable}
+use Rattle.roots.proofs.Placing.{sorted_length}
 
 -- an array of four, of which at most four are counted
 pub record Held (l : Roots) : Type 0 where

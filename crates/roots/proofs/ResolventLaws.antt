@@ -1,17 +1,16 @@
 -- For any doubles the resolvent's t is a number from -1 to 1, and its count is 1, 2 or 3. Assumes nothing.
 use mathlib.Core.Path.{◌≡◌, refl}
-use Prim.Native.Nat.{ℕ, ◌≤◌}
-use mathlib.Core.List.{List}
+use Prim.Native.Nat.{◌≤◌}
 use mathlib.Core.Bool.{false}
-use lib.Dec.{T, leb, lit≤}
 use lib.Ieee.{Float, neg, of_bits, lt, is_nan}
-use Rattle.doubles.specs.Operators.{◌+ᶠ◌, ◌-ᶠ◌, ◌*ᶠ◌, ◌/ᶠ◌, -ᶠ◌, ◌<ᶠ◌}
-use Rattle.doubles.specs.Constants.{1ᶠ, 2ᶠ, 3ᶠ, eps}
-use Rattle.doubles.specs.Functions.{absᶠ, minᶠ, maxᶠ}
-use Rattle.elementary.specs.Functions.{sqrt_of}
+use Rattle.doubles.specs.Operators.{◌-ᶠ◌, ◌*ᶠ◌, ◌/ᶠ◌, -ᶠ◌, ◌<ᶠ◌}
+use Rattle.doubles.specs.Constants.{1ᶠ}
+use Rattle.doubles.specs.Functions.{minᶠ, maxᶠ}
+use native.Mathlib.Omega.{arith}
 use Rattle.roots.specs.declared.resolvent.Zeros.{Zeros}
-use Rattle.roots.specs.Resolvent.{clamped_ratio, three_zeros, few_zeros, resolvent_of}
-use Rattle.doubles.proofs.CondLaws.{by_cases, cond_of}
+use Rattle.roots.specs.declared.resolvent.Zeros.TheVariants.{One, Two, Three}
+use Rattle.roots.specs.Resolvent.{zero_count, clamped_ratio, resolvent_of}
+use Rattle.doubles.proofs.CondLaws.{by_cases}
 
 -- a number, not above 1 and not below -1
 pub record InRange (t : Float) : Type 0 where
@@ -47,25 +46,13 @@ ratio_in_range q root r = max_minus_one (minᶠ (r /ᶠ (q *ᶠ root)) 1ᶠ) (mi
 -- ---- the count
 
 pub record OneToThree (z : Zeros) : Type 0 where
-  pub low : 1 ≤ z.count
-  pub high : z.count ≤ 3
+  pub low : 1 ≤ zero_count z
+  pub high : zero_count z ≤ 3
 
-counted : (x : List Float) (n : ℕ) → T (leb 1 n) → T (leb n 3) → OneToThree (record { x = x; count = n })
-counted x n h k = record { low = lit≤ h; high = lit≤ k }
-
-few_count : (a u v : Float) → OneToThree (few_zeros a u v)
-unfolding few_zeros
-few_count a u v = cond_of OneToThree (absᶠ (sqrt_of 3ᶠ *ᶠ (u -ᶠ v) /ᶠ 2ᶠ) <ᶠ eps) (counted _ 2 tt tt) (counted _ 1 tt tt)
-
-three_count : (a q r : Float) → OneToThree (three_zeros a q r)
-unfolding three_zeros
-three_count a q r = counted _ 3 tt tt
+counted : (z : Zeros) → OneToThree z
+counted (One _ _ _) = record { low = omega arith; high = omega arith }
+counted (Two _ _) = record { low = omega arith; high = omega arith }
+counted (Three _ _ _) = record { low = omega arith; high = omega arith }
 
 pub resolvent_count : (a b c : Float) → OneToThree (resolvent_of a b c)
-unfolding resolvent_of
-resolvent_count a b c =
-    let third = a /ᶠ 3ᶠ in
-    let a2 = third *ᶠ third in
-    let q = a2 -ᶠ b /ᶠ 3ᶠ in
-    let r = (third *ᶠ (2ᶠ *ᶠ a2 -ᶠ b) +ᶠ c) /ᶠ 2ᶠ in
-    cond_of OneToThree (r *ᶠ r <ᶠ q *ᶠ q *ᶠ q) (three_count third q r) (few_count third _ _)
+resolvent_count a b c = counted (resolvent_of a b c)

@@ -1,18 +1,14 @@
 -- Roots put in order one by one ascend, and equal ones stay in the order in which they came. Assumes nothing.
 use mathlib.Core.Path.{◌≡◌, refl, sym, ap, ◌∙◌}
-use Prim.Native.Nat.{◌+◌}
-use native.Mathlib.Omega.{arith}
 use mathlib.Core.Bool.{true, false}
 use mathlib.Core.List.{List, [], ◌∷◌, ◌++◌, append-nil, append_assoc}
 use lib.Ieee.{Float}
-use lib.ListN.{length}
 use Rattle.doubles.specs.Operators.{◌<ᶠ◌, ◌≤ᶠ◌, ◌==ᶠ◌}
 use Rattle.roots.specs.List.{placed, sorted_from}
 use Rattle.doubles.specs.Value.{AtLeastZero}
 use Rattle.roots.specs.Reading.{equal_to, Ascending, none, one, more}
 use Rattle.doubles.proofs.CondLaws.{by_cases}
 use Rattle.doubles.proofs.ComparisonLaws.{lt_le, equal_not_below, at_most_of_below, not_below_nonnegative}
-use Rattle.roots.proofs.Placing.{length_placed}
 
 -- all of a list are at least 0
 pub data Members : List Float → Type 0 where
@@ -80,11 +76,6 @@ placed_equal x v (y ∷ l) a =
     ∙ ap (λ (r : List Float). r ++ equal_to v (x ∷ [])) (sym (equal_head v y l))))
 
 -- ---- all of a list
-
-pub sorted_length : (done l : List Float) → length (sorted_from done l) ≡ length done + length l
-unfolding sorted_from
-sorted_length done [] = omega arith
-sorted_length done (x ∷ l) = omega (arith, sorted_length (placed x done) l, length_placed x done)
 
 pub sorted_ascends : (done l : List Float) → Members done → Members l → Ascending done → Ascending (sorted_from done l)
 unfolding sorted_from

@@ -6,6 +6,7 @@ use Rattle.doubles.specs.Constants.{0ᶠ, 1ᶠ, 2ᶠ, 3ᶠ, 4ᶠ, 6ᶠ, 8ᶠ}
 use Rattle.doubles.specs.Functions.{absᶠ, minᶠ, maxᶠ}
 use Rattle.elementary.specs.Functions.{sqrt_of, cbrt_of, third_angle_cosine_of, third_angle_sine_of}
 use Rattle.roots.specs.declared.list.Roots.{Roots}
+use Rattle.roots.specs.declared.resolvent.Zeros.TheVariants.{One, Two, Three}
 use Rattle.roots.specs.List.{inserted, placed, sorted_from, ascending_of, reading}
 use Rattle.roots.specs.Resolvent.{clamped_ratio, three_zeros, cube_root, quotient, few_zeros, resolvent_of}
 use Rattle.roots.specs.Quartic.{with_quadratic, larger, largest_zero, equal_constants, factors_of, roots_by_factors}
@@ -16,19 +17,16 @@ use Rattle.roots.specs.Quartic.{quartic_of}
 pub record Resolvents : Type 0 where
   -- x³ - 8 has the zero 2; -1 ± √3 i are the others
   pub one_zero : resolvent_of 0ᶠ 0ᶠ (neg 8ᶠ)
-      ≡ record { x = 2ᶠ ∷ neg 1ᶠ ∷ of_bits binary64 0x3ffb_b67a_e858_4caa ∷ []; count = 1 }
+      ≡ One 2ᶠ (neg 1ᶠ) (of_bits binary64 0x3ffb_b67a_e858_4caa)
   -- x³ - 3x + 2 has the zero -2 and the double zero 1
-  pub two_zeros : resolvent_of 0ᶠ (neg 3ᶠ) 2ᶠ ≡ record { x = neg 2ᶠ ∷ 1ᶠ ∷ 1ᶠ ∷ []; count = 2 }
+  pub two_zeros : resolvent_of 0ᶠ (neg 3ᶠ) 2ᶠ ≡ Two (neg 2ᶠ) 1ᶠ
   -- x³ - 3x has the zeros -√3, √3 and 0
   pub three_zeros_law : resolvent_of 0ᶠ (neg 3ᶠ) 0ᶠ
-      ≡ record {
-        x = of_bits binary64 0xbffb_b67a_e858_4caa ∷ of_bits binary64 0x3ffb_b67a_e858_4caa ∷ 0ᶠ ∷ [];
-        count = 3;
-      }
+      ≡ Three (of_bits binary64 0xbffb_b67a_e858_4caa) (of_bits binary64 0x3ffb_b67a_e858_4caa) 0ᶠ
   -- x³ has the zero 0, and -0 twice
-  pub at_zero : resolvent_of 0ᶠ 0ᶠ 0ᶠ ≡ record { x = 0ᶠ ∷ neg 0ᶠ ∷ neg 0ᶠ ∷ []; count = 2 }
+  pub at_zero : resolvent_of 0ᶠ 0ᶠ 0ᶠ ≡ Two 0ᶠ (neg 0ᶠ)
   -- a NaN makes all NaN, and one zero
-  pub of_nan : resolvent_of nan 0ᶠ 0ᶠ ≡ record { x = nan ∷ nan ∷ nan ∷ []; count = 1 }
+  pub of_nan : resolvent_of nan 0ᶠ 0ᶠ ≡ One nan nan nan
 
 pub resolvents : Resolvents
 unfolding add sub mul div neg lt le eq is_nan of_bits absᶠ minᶠ maxᶠ sqrt_of cbrt_of third_angle_cosine_of third_angle_sine_of

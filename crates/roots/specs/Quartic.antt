@@ -1,13 +1,14 @@
 -- `solve_quart_monic_coeffs` for any doubles, in the Rust's order of operations. Definitions only.
-use Rattle.std.specs.Prelude.{◌&&◌, cond, eqb, Float}
+use Rattle.std.specs.Prelude.{◌&&◌, cond, Float}
 use Rattle.std.specs.Float.{binary64}
 use Rattle.std.specs.Float.Ieee.{of_bits}
-use Rattle.doubles.specs.Operators.{◌+ᶠ◌, ◌-ᶠ◌, ◌*ᶠ◌, ◌/ᶠ◌, -ᶠ◌, ◌<ᶠ◌, at}
+use Rattle.doubles.specs.Operators.{◌+ᶠ◌, ◌-ᶠ◌, ◌*ᶠ◌, ◌/ᶠ◌, -ᶠ◌, ◌<ᶠ◌}
 use Rattle.doubles.specs.Constants.{0ᶠ, 2ᶠ, 4ᶠ, eps}
 use Rattle.doubles.specs.Functions.{absᶠ}
 use Rattle.elementary.specs.Functions.{sqrt_of, cbrt_of}
 use Rattle.roots.specs.declared.list.Roots.{Roots}
 use Rattle.roots.specs.declared.resolvent.Zeros.{Zeros}
+use Rattle.roots.specs.declared.resolvent.Zeros.TheVariants.{One, Two, Three}
 use Rattle.roots.specs.declared.quartic.Factors.{Factors}
 use Rattle.roots.specs.List.{no_roots, inserted}
 use Rattle.roots.specs.Resolvent.{resolvent_of}
@@ -31,7 +32,9 @@ unfoldable pub larger : Float → Float → Float
 larger x y = cond (absᶠ x <ᶠ absᶠ y) y x
 
 unfoldable pub largest_zero : Zeros → Float
-largest_zero z = cond (eqb z.count 1) (at z.x 0) (larger (larger (at z.x 0) (at z.x 1)) (at z.x 2))
+largest_zero (One x _ _) = x
+largest_zero (Two x y) = larger x y
+largest_zero (Three x y z) = larger (larger x y) z
 
 -- where q1 and q2 are taken for equal
 unfoldable pub equal_constants : Float → Float → Float → Factors

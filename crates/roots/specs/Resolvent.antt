@@ -1,6 +1,6 @@
 -- `solve_resolvent` for any doubles, in the Rust's order of operations: the count, 1, 2 or 3,
 -- and the three numbers. Definitions only.
-use Rattle.std.specs.Prelude.{cond, [], ◌∷◌, Float}
+use Rattle.std.specs.Prelude.{ℕ, cond, Float}
 use Rattle.std.specs.Float.{binary64}
 use Rattle.std.specs.Float.Ieee.{of_bits}
 use Rattle.doubles.specs.Operators.{◌+ᶠ◌, ◌-ᶠ◌, ◌*ᶠ◌, ◌/ᶠ◌, -ᶠ◌, ◌<ᶠ◌, ◌==ᶠ◌}
@@ -8,6 +8,13 @@ use Rattle.doubles.specs.Constants.{0ᶠ, 1ᶠ, 2ᶠ, 3ᶠ, eps}
 use Rattle.doubles.specs.Functions.{absᶠ, minᶠ, maxᶠ}
 use Rattle.elementary.specs.Functions.{sqrt_of, cbrt_of, third_angle_cosine_of, third_angle_sine_of}
 use Rattle.roots.specs.declared.resolvent.Zeros.{Zeros}
+use Rattle.roots.specs.declared.resolvent.Zeros.TheVariants.{One, Two, Three}
+
+-- the Rust's count
+abbrev pub zero_count : Zeros → ℕ
+zero_count (One _ _ _) = 1
+zero_count (Two _ _) = 2
+zero_count (Three _ _ _) = 3
 
 -- COS_120, -0.50, and SIN_120, 0.866_025_403_784_438_6
 abbrev pub cos120 : Float
@@ -30,7 +37,7 @@ three_zeros a q r =
     let x0 = ux -ᶠ a in
     let x1 = ux *ᶠ cos120 -ᶠ uyi *ᶠ sin120 -ᶠ a in
     let x2 = ux *ᶠ cos120 +ᶠ uyi *ᶠ sin120 -ᶠ a in
-    record { x = x0 ∷ x1 ∷ x2 ∷ []; count = 3 }
+    Three x0 x1 x2
 
 -- ---- otherwise one zero, or two
 
@@ -49,7 +56,7 @@ few_zeros a u v =
     let x0 = u +ᶠ v -ᶠ a in
     let x1 = -ᶠ (u +ᶠ v) /ᶠ 2ᶠ -ᶠ a in
     let x2 = sqrt_of 3ᶠ *ᶠ (u -ᶠ v) /ᶠ 2ᶠ in
-    cond (absᶠ x2 <ᶠ eps) (record { x = x0 ∷ x1 ∷ x1 ∷ []; count = 2 }) (record { x = x0 ∷ x1 ∷ x2 ∷ []; count = 1 })
+    cond (absᶠ x2 <ᶠ eps) (Two x0 x1) (One x0 x1 x2)
 
 -- ---- the zeros of x³ + a x² + b x + c
 

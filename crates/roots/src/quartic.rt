@@ -12,6 +12,7 @@ use sqrt::sqrt;
 const EPS_M_BY_16: f64 = 16.0 * EPSILON;
 
 // The roots of x⁴ + a x³ + b x² + c x + d that are at least 0.
+#[tactic(auto, unfolding(crate::specs::Quartic::quartic_of))]
 pub fn solve_quart_monic_coeffs(a: f64, b: f64, c: f64, d: f64) -> Roots
     ensures { result ≡ quartic_of a b c d }
 {
@@ -26,6 +27,7 @@ pub fn solve_quart_monic_coeffs(a: f64, b: f64, c: f64, d: f64) -> Roots
 }
 
 // The list with the roots of x² + p x + q: one where the discriminant is within the tolerance of 0, two where it is above 0.
+#[tactic(auto, unfolding(crate::specs::Quartic::with_quadratic))]
 fn with_quadratic(roots: Roots, p: f64, q: f64, tolerance: f64) -> Roots
     ensures { result ≡ with_quadratic roots p q tolerance }
 {
@@ -56,16 +58,18 @@ fn roots_by_factors(a: f64, b: f64, c: f64, d: f64) -> Roots
 }
 
 // The Rust's y: of the resolvent's zeros the one with the largest absolute value.
+#[tactic(auto, unfolding(crate::specs::Quartic::largest_zero))]
 fn largest_zero(zeros: Zeros) -> f64
     ensures { result ≡ largest_zero zeros }
 {
-    let x = zeros.x;
-    if zeros.count == 1 {
-        return x[0];
+    match zeros {
+        Zeros::One(x, _, _) => x,
+        Zeros::Two(x, y) => larger(x, y),
+        Zeros::Three(x, y, z) => larger(larger(x, y), z),
     }
-    larger(larger(x[0], x[1]), x[2])
 }
 
+#[tactic(auto, unfolding(crate::specs::Quartic::larger))]
 fn larger(x: f64, y: f64) -> f64
     ensures { result ≡ larger x y }
 {
@@ -81,6 +85,7 @@ struct Factors {
     q2: f64,
 }
 
+#[tactic(auto, unfolding(crate::specs::Quartic::factors_of))]
 fn factors_of(a: f64, b: f64, c: f64, d: f64, y: f64) -> Factors
     ensures { result ≡ factors_of a b c d y }
 {
@@ -100,6 +105,7 @@ fn factors_of(a: f64, b: f64, c: f64, d: f64, y: f64) -> Factors
 }
 
 // The factors where q1 and q2 are taken for equal.
+#[tactic(auto, unfolding(crate::specs::Quartic::equal_constants))]
 fn equal_constants(a: f64, b: f64, y: f64) -> Factors
     ensures { result ≡ equal_constants a b y }
 {

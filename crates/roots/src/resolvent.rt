@@ -13,15 +13,17 @@ const SIN_120: f64 = 0.8660254037844386;
 // 3.0_f64.sqrt()
 const SQRT_3: f64 = 1.7320508075688772;
 
-// With a count of 3 or 2 the three numbers are the zeros, for 2 with the last one twice. With 1 the first is the one
-// real zero; the others are the real and the imaginary part of a complex one.
+// The real zeros: one, with the real and the imaginary part of a complex one behind it; two, the second of which is
+// double; or three.
 #[derive(Clone, Copy)]
-pub struct Zeros {
-    pub x: [f64; 3],
-    pub count: usize,
+pub enum Zeros {
+    One(f64, f64, f64),
+    Two(f64, f64),
+    Three(f64, f64, f64),
 }
 
 // The zeros of x³ + a x² + b x + c.
+#[tactic(auto, unfolding(crate::specs::Resolvent::resolvent_of))]
 pub fn solve_resolvent(a: f64, b: f64, c: f64) -> Zeros
     ensures { result ≡ resolvent_of a b c }
 {
@@ -38,6 +40,7 @@ pub fn solve_resolvent(a: f64, b: f64, c: f64) -> Zeros
     few_zeros(third, u, quotient(q, u))
 }
 
+#[tactic(auto, unfolding(crate::specs::Resolvent::three_zeros))]
 fn three_zeros(third: f64, q: f64, r: f64) -> Zeros
     ensures { result ≡ three_zeros third q r }
 {
@@ -46,17 +49,15 @@ fn three_zeros(third: f64, q: f64, r: f64) -> Zeros
     let factor = -2.0 * q_sqrt;
     let ux = pair.cos * factor;
     let uyi = pair.sin * factor;
-    Zeros {
-        x: [
-            ux - third,
-            ux * COS_120 - uyi * SIN_120 - third,
-            ux * COS_120 + uyi * SIN_120 - third,
-        ],
-        count: 3,
-    }
+    Zeros::Three(
+        ux - third,
+        ux * COS_120 - uyi * SIN_120 - third,
+        ux * COS_120 + uyi * SIN_120 - third,
+    )
 }
 
 // The Rust's t, from -1 to 1: where the quotient is a NaN, `min` gives 1.
+#[tactic(auto, unfolding(crate::specs::Resolvent::clamped_ratio))]
 fn clamped_ratio(q: f64, q_sqrt: f64, r: f64) -> f64
     ensures { result ≡ clamped_ratio q q_sqrt r }
 {
@@ -64,6 +65,7 @@ fn clamped_ratio(q: f64, q_sqrt: f64, r: f64) -> f64
 }
 
 // The Rust's a_.
+#[tactic(auto, unfolding(crate::specs::Resolvent::cube_root))]
 fn cube_root(r: f64, discriminant: f64) -> f64
     ensures { result ≡ cube_root r discriminant }
 {
@@ -72,12 +74,14 @@ fn cube_root(r: f64, discriminant: f64) -> f64
 }
 
 // The Rust's b_.
+#[tactic(auto, unfolding(crate::specs::Resolvent::quotient))]
 fn quotient(q: f64, u: f64) -> f64
     ensures { result ≡ quotient q u }
 {
     if u == 0.0 { 0.0 } else { q / u }
 }
 
+#[tactic(auto, using(crate::proofs::Constants::sqrt_three), unfolding(crate::specs::Resolvent::few_zeros))]
 fn few_zeros(third: f64, u: f64, v: f64) -> Zeros
     ensures { result ≡ few_zeros third u v }
 {
@@ -85,13 +89,7 @@ fn few_zeros(third: f64, u: f64, v: f64) -> Zeros
     let x1 = -(u + v) / 2.0 - third;
     let x2 = SQRT_3 * (u - v) / 2.0;
     if abs(x2) < EPSILON {
-        return Zeros {
-            x: [x0, x1, x1],
-            count: 2,
-        };
+        return Zeros::Two(x0, x1);
     }
-    Zeros {
-        x: [x0, x1, x2],
-        count: 1,
-    }
+    Zeros::One(x0, x1, x2)
 }

@@ -38,21 +38,22 @@ pub struct Stage {
     pub stops: bool,
 }
 
+#[tactic(auto, unfolding(crate::specs::Stages::kind_of, crate::specs::Stages::kind_by))]
 pub fn kind_of(start: Start, target: Target, k: Constants, m: Limits) -> Kind
     ensures { result ≡ kind_of start target k m }
 {
     if has_zero_limit(m) {
-        return Kind::SingleStep;
+        Kind::SingleStep
+    } else if !ends_at_rest(target) {
+        Kind::Moving
+    } else if rests_at_target(start, k) {
+        Kind::Itself
+    } else {
+        Kind::Resting
     }
-    if ends_at_rest(target) {
-        if rests_at_target(start, k) {
-            return Kind::Itself;
-        }
-        return Kind::Resting;
-    }
-    Kind::Moving
 }
 
+#[tactic(auto, unfolding(crate::specs::Stages::limits_for))]
 pub fn limits_for(way: Way, k: Constants, m: Limits) -> Limits
     ensures { result ≡ limits_for k m way }
 {
@@ -65,44 +66,39 @@ pub fn limits_for(way: Way, k: Constants, m: Limits) -> Limits
 }
 
 // The three of `time_all_none_acc0_acc1`.
+#[tactic(auto, unfolding(crate::specs::Stages::polynom_family))]
 fn polynom_family(n: usize) -> Family
     ensures { result ≡ polynom_family n }
 {
-    if n == 0 {
-        return Family::None;
+    match n {
+        0 => Family::None,
+        1 => Family::Acc0,
+        _ => Family::Acc1,
     }
-    if n == 1 {
-        return Family::Acc0;
-    }
-    Family::Acc1
 }
 
 // Those of a resting target in one direction.
+#[tactic(auto, unfolding(crate::specs::Stages::resting_family))]
 fn resting_family(n: usize) -> Family
     ensures { result ≡ resting_family n }
 {
-    if n == 0 {
-        return Family::AllVel;
+    match n {
+        0 => Family::AllVel,
+        1..=3 => polynom_family(n - 1),
+        _ => Family::Acc0Acc1,
     }
-    if n < 4 {
-        return polynom_family(n - 1);
-    }
-    Family::Acc0Acc1
 }
 
+#[tactic(auto, unfolding(crate::specs::Stages::two_step_family))]
 fn two_step_family(n: usize) -> Family
     ensures { result ≡ two_step_family n }
 {
-    if n < 2 {
-        return Family::NoneTwoStep;
+    match n {
+        0 | 1 => Family::NoneTwoStep,
+        2 | 3 => Family::Acc0TwoStep,
+        4 | 5 => Family::VelTwoStep,
+        _ => Family::Acc1VelTwoStep,
     }
-    if n < 4 {
-        return Family::Acc0TwoStep;
-    }
-    if n < 6 {
-        return Family::VelTwoStep;
-    }
-    Family::Acc1VelTwoStep
 }
 
 // A stage of a search that ends with the first profile found.
@@ -130,79 +126,67 @@ fn each_of(family: Family, way: Way, stops: bool) -> Stage
 }
 
 // A resting target: in the direction of pf - p0, and then in the other.
+#[tactic(auto, unfolding(crate::specs::Stages::resting_stage))]
 fn resting_stage(n: usize) -> Stage
     ensures { result ≡ resting_stage n }
 {
     if n < 5 {
-        return first_of(resting_family(n), Way::Towards);
+        first_of(resting_family(n), Way::Towards)
+    } else {
+        first_of(resting_family(n - 5), Way::Away)
     }
-    first_of(resting_family(n - 5), Way::Away)
 }
 
 // Any other target: all families, both directions. Only `time_all_vel` stops at its first success.
+#[tactic(auto, unfolding(crate::specs::Stages::moving_stage))]
 fn moving_stage(n: usize) -> Stage
     ensures { result ≡ moving_stage n }
 {
-    if n < 3 {
-        return each_of(polynom_family(n), Way::Given, false);
+    match n {
+        0..=2 => each_of(polynom_family(n), Way::Given, false),
+        3..=5 => each_of(polynom_family(n - 3), Way::Swapped, false),
+        6 => each_of(Family::Acc0Acc1, Way::Given, false),
+        7 => each_of(Family::Acc0Acc1, Way::Swapped, false),
+        8 => each_of(Family::AllVel, Way::Given, true),
+        _ => each_of(Family::AllVel, Way::Swapped, true),
     }
-    if n < 6 {
-        return each_of(polynom_family(n - 3), Way::Swapped, false);
-    }
-    if n == 6 {
-        return each_of(Family::Acc0Acc1, Way::Given, false);
-    }
-    if n == 7 {
-        return each_of(Family::Acc0Acc1, Way::Swapped, false);
-    }
-    if n == 8 {
-        return each_of(Family::AllVel, Way::Given, true);
-    }
-    each_of(Family::AllVel, Way::Swapped, true)
 }
 
 // With none found: each family as given, and then swapped.
+#[tactic(auto, unfolding(crate::specs::Stages::two_step_stage))]
 fn two_step_stage(n: usize) -> Stage
     ensures { result ≡ two_step_stage n }
 {
     if n % 2 == 0 {
-        return first_of(two_step_family(n), Way::Given);
+        first_of(two_step_family(n), Way::Given)
+    } else {
+        first_of(two_step_family(n), Way::Swapped)
     }
-    first_of(two_step_family(n), Way::Swapped)
 }
 
+#[tactic(auto, unfolding(crate::specs::Stages::stage_count))]
 pub fn stage_count(kind: Kind) -> usize
     ensures { result ≡ stage_count kind }
 {
     match kind {
         Kind::SingleStep => 1,
         Kind::Itself => 11,
-        Kind::Resting => 18,
-        Kind::Moving => 18,
+        Kind::Resting | Kind::Moving => 18,
     }
 }
 
 // The stage n. The first search of a rest that is its own target has three stages, that of another move ten; the
 // two-step families follow.
+#[tactic(auto, unfolding(crate::specs::Stages::stage_at))]
 pub fn stage_at(kind: Kind, n: usize) -> Stage
     ensures { result ≡ stage_at kind n }
 {
     match kind {
         Kind::SingleStep => first_of(Family::SingleStep, Way::Given),
-        Kind::Itself => if n < 3 {
-            first_of(polynom_family(n), Way::Towards)
-        } else {
-            two_step_stage(n - 3)
-        },
-        Kind::Resting => if n < 10 {
-            resting_stage(n)
-        } else {
-            two_step_stage(n - 10)
-        },
-        Kind::Moving => if n < 10 {
-            moving_stage(n)
-        } else {
-            two_step_stage(n - 10)
-        },
+        Kind::Itself if n < 3 => first_of(polynom_family(n), Way::Towards),
+        Kind::Itself => two_step_stage(n - 3),
+        Kind::Resting if n < 10 => resting_stage(n),
+        Kind::Moving if n < 10 => moving_stage(n),
+        Kind::Resting | Kind::Moving => two_step_stage(n - 10),
     }
 }

@@ -1,19 +1,15 @@
 -- The estimate of the square root, operation by operation. Definitions only.
-use Rattle.std.specs.Prelude.{ℕ, ◌-◌, ◌/◌, from_bits, Float}
+use Rattle.std.specs.Prelude.{ℕ, from_bits, Float}
 use Rattle.std.specs.Float.{binary64}
 use Rattle.doubles.specs.Operators.{◌+ᶠ◌, ◌-ᶠ◌, ◌*ᶠ◌}
 use Rattle.doubles.specs.Constants.{½ᶠ, 1ᶠ}
+use Rattle.doubles.specs.Guess.{inverse_root_guess}
 use Rattle.doubles.specs.Splitting.{leading_digits}
-
--- near 1 / √x, by the pattern b of x
-unfoldable pub first_guess : ℕ → Float
-first_guess b = from_bits binary64 (0x5fe6_eb50_c7b5_37a9 - b / 2)
 
 -- the splitter is 2 ^ 27 + 1
 unfoldable pub candidate_of : Float → ℕ → Float
-unfolding first_guess
 candidate_of x b =
-    let g = first_guess b in
+    let g = inverse_root_guess b in
     let s0 = x *ᶠ g in
     let r = 1ᶠ -ᶠ s0 *ᶠ g in
     let a = leading_digits s0 (from_bits binary64 0x41a0_0000_0200_0000) in

@@ -2,16 +2,7 @@
 // whole-number comparison certifies it or not. (It is the nearest double for all but about one normal argument in a
 // hundred, and then a neighbour is.)
 ghost use Rattle.std.specs.Prelude.{◌≡◌, ◌^◌, ◌<◌};
-ghost use Rattle.sqrt.specs.Candidate.{first_guess, candidate_of};
-
-// 1 / √x to within 3.5 % for the pattern b of a normal double x: half the exponent, and a straight line for the
-// significand.
-fn first_guess(b: u64) -> f64
-    requires { b < 2 ^ 63 }
-    ensures { result ≡ first_guess b }
-{
-    f64::from_bits(0x5fe6_eb50_c7b5_37a9 - (b >> 1))
-}
+ghost use Rattle.sqrt.specs.Candidate.{candidate_of};
 
 // With g near 1 / √x and r = 1 - x g²: √x is x g (1 - r)^(-1/2), here s by a polynomial of r as the product f c, to 30
 // digits. Then s is corrected by x - s², computed with a, the 26 leading digits of x g, as (x - a²) - (s - a)(s + a).
@@ -19,7 +10,7 @@ pub fn candidate(x: f64, b: u64) -> f64
     requires { b < 2 ^ 63 }
     ensures { result ≡ candidate_of x b }
 {
-    let g = first_guess(b);
+    let g = doubles::inverse_root_guess(b);
     let s0 = x * g;
     let r = 1.0 - s0 * g;
     let a = doubles::leading_digits(s0, 134217729.0);

@@ -15,25 +15,18 @@ use crate::certificate::Verdict;
 pub fn sqrt(x: f64) -> f64
     ensures { result ≡ sqrt_of x }
 {
-    if x != x {
+    if x.is_nan() {
         return x;
     }
     let b = f64::to_bits(x);
     if (b >= 0x10_0000_0000_0000) & (b < 0x7ff0_0000_0000_0000) {
         let s = candidate::candidate(x, b);
-        if s == s {
+        if !s.is_nan() {
             let c = f64::to_bits(s);
-            let v = certificate::root_judged(b, c);
-            match v {
-                Verdict::Nearest => {
-                    return s;
-                }
-                Verdict::TooLow => {
-                    return f64::from_bits(c + 1);
-                }
-                Verdict::TooHigh => {
-                    return f64::from_bits(c - 1);
-                }
+            match certificate::root_judged(b, c) {
+                Verdict::Nearest => return s,
+                Verdict::TooLow => return f64::from_bits(c + 1),
+                Verdict::TooHigh => return f64::from_bits(c - 1),
                 Verdict::Unknown => {}
             }
         }
@@ -45,7 +38,7 @@ pub fn sqrt(x: f64) -> f64
 pub fn sqrt_by_digits(x: f64) -> f64
     ensures { result ≡ sqrt_of x }
 {
-    if x != x {
+    if x.is_nan() {
         return x;
     }
     let b = f64::to_bits(x);

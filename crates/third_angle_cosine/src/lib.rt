@@ -1,51 +1,48 @@
 // The cosine of a third of an angle, by the cosine t of the angle.
 #![tactic(auto)]
 
-ghost use Rattle.std.specs.Prelude.{◌≡◌, ◌+◌, ◌*◌, ◌^◌, ◌<◌, ◌≤◌};
-ghost use Rattle.std.specs.Float.{binary64};
-ghost use Rattle.std.specs.Float.Ieee.{of_bits};
+ghost use Rattle.std.specs.Prelude.{◌≡◌};
 ghost use Rattle.elementary.specs.Functions.{third_angle_cosine_of};
 
-use angle::Argument;
+use angle::candidate::Estimate;
+use angle::{Pattern, ThirdAngle, third_angle, third_angle_by_digits};
 
 pub mod certificate;
 pub mod digits;
 
-// The double nearest to the cosine for the t with this sign bit and this pattern of its magnitude: the candidate where
-// exact comparison certifies it, and otherwise the cosine by its digits.
-pub fn nearest(sign: u64, m: u64, candidate: f64) -> f64
-    requires { (sign < 2) × (0x3c80_0000_0000_0000 ≤ m) × (m < 0x3ff0_0000_0000_0000) }
-    ensures { result ≡ third_angle_cosine_of (of_bits binary64 (sign * 2 ^ 63 + m)) }
-{
-    if candidate == candidate {
-        if certificate::is_cosine(sign, m, f64::to_bits(candidate)) {
-            return candidate;
-        }
+// The cosine as one of the two functions.
+pub struct Cosine;
+
+impl ThirdAngle for Cosine {
+    ghost of = { third_angle_cosine_of };
+
+    fn known(cos: f64, sin: f64) -> f64 {
+        cos
     }
-    f64::from_bits(digits::cosine_pattern(sign, m))
+
+    fn candidate(t: f64, e: Estimate) -> f64 {
+        e.cosine()
+    }
+
+    fn certified(t: Pattern, c: u64) -> bool {
+        certificate::is_cosine(t, c)
+    }
+
+    fn pattern(t: Pattern) -> u64 {
+        digits::cosine_pattern(t)
+    }
 }
 
 // The double nearest to the cosine, by a candidate in float arithmetic.
 pub fn third_angle_cosine(t: f64) -> f64
     ensures { result ≡ third_angle_cosine_of t }
 {
-    let a = angle::classify(t);
-    match a {
-        Argument::Known(cos, sin) => cos,
-        Argument::Inside(sign, m) => {
-            let e = angle::candidate::estimated(t);
-            nearest(sign, m, angle::candidate::cosine_candidate(e.u, e.d))
-        }
-    }
+    third_angle::<Cosine>(t)
 }
 
 // The double nearest to the cosine, one binary digit a round.
 pub fn third_angle_cosine_by_digits(t: f64) -> f64
     ensures { result ≡ third_angle_cosine_of t }
 {
-    let a = angle::classify(t);
-    match a {
-        Argument::Known(cos, sin) => cos,
-        Argument::Inside(sign, m) => f64::from_bits(digits::cosine_pattern(sign, m)),
-    }
+    third_angle_by_digits::<Cosine>(t)
 }

@@ -4,7 +4,10 @@
 ghost use Rattle.std.specs.Prelude.{◌≡◌};
 ghost use Rattle.elementary.specs.Functions.{third_angle_cosine_of, third_angle_sine_of};
 
-use angle::Argument;
+use angle::candidate::estimated;
+use angle::{Argument, classify, nearest};
+use third_angle_cosine::Cosine;
+use third_angle_sine::Sine;
 
 #[derive(Clone, Copy)]
 pub struct Pair {
@@ -16,17 +19,13 @@ pub struct Pair {
 pub fn third_angle_pair(t: f64) -> Pair
     ensures { (result.cos ≡ third_angle_cosine_of t) × (result.sin ≡ third_angle_sine_of t) }
 {
-    let a = angle::classify(t);
-    match a {
+    match classify(t) {
         Argument::Known(cos, sin) => Pair { cos, sin },
-        Argument::Inside(sign, m) => {
-            let e = angle::candidate::estimated(t);
-            let u = e.u;
-            let d = e.d;
-            let sin = angle::candidate::sine_candidate(t, u, d, e.square, e.rest);
+        Argument::Inside(i) => {
+            let e = estimated(t);
             Pair {
-                cos: third_angle_cosine::nearest(sign, m, angle::candidate::cosine_candidate(u, d)),
-                sin: third_angle_sine::nearest(sign, m, sin),
+                cos: nearest::<Cosine>(i, e.cosine()),
+                sin: nearest::<Sine>(i, e.sine(t)),
             }
         }
     }

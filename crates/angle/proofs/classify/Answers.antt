@@ -4,20 +4,16 @@ use denote.Floats.{passes}
 use lib.Arith.{lt_of_le-ne}
 use lib.Bits.{and_mask}
 use lib.Ieee.{binary64, to_bits}
-use Rattle.bits.proofs.Patterns.{not_nan}
 use Rattle.angle.proofs.Cases.{not_a_number, outside, near, one, minus_one, sign_lt, by_sign}
 use Rattle.angle.proofs.classify.Goals as goal
 
-pub returns-then-t : goal.returns-then-t
-returns-then-t c = not_a_number c.args.t c.if-t.true
-
-pub float_to_bits-b : goal.float_to_bits-b
-float_to_bits-b c = not_nan c.args.t c.if-t.false
+pub returns-then-is_nan : goal.returns-then-is_nan
+returns-then-is_nan c = not_a_number c.args.t (sym c.if-is_nan.ensures.value)
 
 pub returns-then-m-gt4607182418800017408 : goal.returns-then-m-gt4607182418800017408
 returns-then-m-gt4607182418800017408 c =
     let t = c.args.t in
-    outside t (passes _ c.well_formed.0.1) (not_nan t c.if-t.false)
+    outside t (passes _ c.well_formed.0.1) c.if-is_nan.ensures.not_nan
     (rw (and_mask (to_bits binary64 t) 63) at c.if-m-gt4607182418800017408.true)
 
 pub returns-then-b-m : goal.returns-then-b-m
@@ -34,11 +30,12 @@ pub returns-then-m-lt4359484439294640128 : goal.returns-then-m-lt435948443929464
 returns-then-m-lt4359484439294640128 c =
     near c.args.t (passes _ c.well_formed.0.1) (rw (and_mask (to_bits binary64 c.args.t) 63) at c.if-m-lt4359484439294640128.true)
 
+pub invariant_of-result : goal.invariant_of-result
+invariant_of-result c = record {
+  sign_bit = sign_lt c.args.t (passes _ c.well_formed.0.1);
+  least = c.if-m-lt4359484439294640128.false;
+  below = lt_of_le-ne c.if-m-gt4607182418800017408.false c.if-m-eq4607182418800017408.false;
+}
+
 pub returns : goal.returns
-returns c =
-    let t = c.args.t in (
-      sign_lt t (passes _ c.well_formed.0.1),
-      c.if-m-lt4359484439294640128.false,
-      lt_of_le-ne c.if-m-gt4607182418800017408.false c.if-m-eq4607182418800017408.false,
-      rw (and_mask (to_bits binary64 t) 63) (by_sign t (passes _ c.well_formed.0.1)),
-    )
+returns c = rw (and_mask (to_bits binary64 c.args.t) 63) (by_sign c.args.t (passes _ c.well_formed.0.1))

@@ -8,7 +8,7 @@ use lib.Bits.{bit_and, and_mask}
 use lib.Ieee.{Float, binary64, of_bits, to_bits, fits}
 use lib.Ieee.Bits.{of_bits-to_bits}
 use lib.Ieee.Fits.{and_l, and_r, add-fits}
-use Rattle.bits.proofs.Patterns.{not_nan, not_nan_by_eq, not_nan_bits}
+use Rattle.bits.proofs.Patterns.{not_nan_bits}
 use Rattle.elementary.specs.Functions.{cbrt_of}
 use Rattle.cbrt.specs.Candidate.{candidate_of, refined_root}
 use Rattle.cbrt.proofs.Signs.{nan_root, root_positive, root_negative}
@@ -35,11 +35,8 @@ magnitude : (b : ℕ) (r : Float) → r ≡ cbrt_of (of_bits binary64 (bit_and b
     → r ≡ cbrt_of (of_bits binary64 (b % 2 ^ 63))
 magnitude b r h = h ∙ ap (λ (m : ℕ). cbrt_of (of_bits binary64 m)) (and_mask b 63)
 
-pub returns-then-x : goal.returns-then-x
-returns-then-x c = nan_root c.args.x c.if-x.true
-
-pub float_to_bits-b : goal.float_to_bits-b
-float_to_bits-b c = not_nan c.args.x c.if-x.false
+pub returns-then-is_nan : goal.returns-then-is_nan
+returns-then-is_nan c = nan_root c.args.x (sym c.if-is_nan.ensures.value)
 
 pub float_from_bits-m : goal.float_from_bits-m
 float_from_bits-m c =
@@ -55,9 +52,6 @@ candidate-root-requires c =
       arith,
       (normal (bit_and (to_bits binary64 c.args.x) 0x7fff_ffff_ffff_ffff) c.if-m.true).1,
     )
-
-pub float_to_bits-root : goal.float_to_bits-root
-float_to_bits-root c = not_nan_by_eq c.candidate-root.result c.if-root.true
 
 pub is_root-requires : goal.is_root-requires
 is_root-requires c =

@@ -4,15 +4,12 @@ use native.Mathlib.Omega.{arith}
 use lib.Dec.{T}
 use lib.Bits.{and_mask}
 use lib.Ieee.{binary64, to_bits}
-use Rattle.bits.proofs.Patterns.{not_nan, not_nan_bits}
+use Rattle.bits.proofs.Patterns.{not_nan_bits}
 use Rattle.cbrt.proofs.Signs.{nan_root, zero_root, infinite_root, root_positive, root_negative}
 use Rattle.cbrt.proofs.cbrt_by_digits.Goals as goal
 
-pub returns-then-x : goal.returns-then-x
-returns-then-x c = nan_root c.args.x c.if-x.true
-
-pub float_to_bits-b : goal.float_to_bits-b
-float_to_bits-b c = not_nan c.args.x c.if-x.false
+pub returns-then-is_nan : goal.returns-then-is_nan
+returns-then-is_nan c = nan_root c.args.x (sym c.if-is_nan.ensures.value)
 
 pub returns-then-m-eq0 : goal.returns-then-m-eq0
 returns-then-m-eq0 c =
@@ -22,7 +19,7 @@ returns-then-m-eq0 c =
 pub returns-then-m-ge9218868437227405312 : goal.returns-then-m-ge9218868437227405312
 returns-then-m-ge9218868437227405312 c =
     let x = c.args.x in
-    infinite_root x (subst T (sym c.well_formed.0.1) tt) (not_nan x c.if-x.false)
+    infinite_root x (subst T (sym c.well_formed.0.1) tt) c.if-is_nan.ensures.not_nan
     (rw (and_mask (to_bits binary64 x) 63) at c.if-m-ge9218868437227405312.true)
 
 pub float_from_bits-root : goal.float_from_bits-root

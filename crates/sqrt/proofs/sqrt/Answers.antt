@@ -4,7 +4,7 @@ use Rattle.std.proofs.Common.{lt_of_lt_of_le, arith, lit≤, ltb→lt, leb→le}
 use lib.Ieee.{Float, binary64, fits, nan_bits, of_bits, to_bits}
 use lib.Ieee.Bits.{of_bits-to_bits}
 use lib.Ieee.Fits.{add-fits, and_l, and_r}
-use Rattle.bits.proofs.Patterns.{not_nan, not_nan_by_eq, not_nan_bits}
+use Rattle.bits.proofs.Patterns.{not_nan_bits}
 use Rattle.elementary.specs.Functions.{sqrt_of}
 use Rattle.sqrt.specs.Candidate.{candidate_of}
 use Rattle.sqrt.specs.Verdicts.{Certified}
@@ -25,20 +25,14 @@ candidate_fits : (x : Float) (b : ℕ) → T (fits binary64 (candidate_of x b))
 unfolding candidate_of
 candidate_fits x b = add-fits binary64 _ _
 
-pub returns-then-x : goal.returns-then-x
-returns-then-x c = at_nan c.args.x c.if-x.true
-
-pub float_to_bits-b : goal.float_to_bits-b
-float_to_bits-b c = not_nan c.args.x c.if-x.false
+pub returns-then-is_nan : goal.returns-then-is_nan
+returns-then-is_nan c = at_nan c.args.x (sym c.if-is_nan.ensures.value)
 
 pub candidate-s-requires : goal.candidate-s-requires
 candidate-s-requires c = lt_of_lt_of_le (normal _ c.if-b.true).1 (lit≤ tt)
 
-pub float_to_bits-c : goal.float_to_bits-c
-float_to_bits-c c = not_nan_by_eq c.candidate-s.result c.if-s.true
-
-pub root_judged-v-requires : goal.root_judged-v-requires
-root_judged-v-requires c = normal _ c.if-b.true
+pub root_judged-requires : goal.root_judged-requires
+root_judged-requires c = normal _ c.if-b.true
 
 -- what the verdict says, once it is known
 told : (b p : ℕ) (v w : Verdict) → Certified b p v → v ≡ w → Certified b p w
@@ -57,25 +51,25 @@ finite_bits b h = not_nan_bits b (omega arith)
 
 pub returns-in-Nearest : goal.returns-in-Nearest
 returns-in-Nearest c =
-    own_candidate c.candidate-s.result _ _ c.candidate-s.ensures ∙ (told _ _ _ Nearest c.root_judged-v.ensures c.in-Nearest.is).1
+    own_candidate c.candidate-s.result _ _ c.candidate-s.ensures ∙ (told _ _ _ Nearest c.root_judged.ensures c.in-Nearest.is).1
     ∙ own_pattern c.args.x (subst T (sym c.well_formed.0.1) tt)
 
 pub overflow_add-result : goal.overflow_add-result
-overflow_add-result c = let h = (told _ _ _ TooLow c.root_judged-v.ensures c.in-TooLow.is).0 in omega arith
+overflow_add-result c = let h = (told _ _ _ TooLow c.root_judged.ensures c.in-TooLow.is).0 in omega arith
 
 pub float_from_bits-result : goal.float_from_bits-result
-float_from_bits-result c = finite_bits _ (told _ _ _ TooLow c.root_judged-v.ensures c.in-TooLow.is).0
+float_from_bits-result c = finite_bits _ (told _ _ _ TooLow c.root_judged.ensures c.in-TooLow.is).0
 
 pub returns-in-TooLow : goal.returns-in-TooLow
 returns-in-TooLow c =
-    (told _ _ _ TooLow c.root_judged-v.ensures c.in-TooLow.is).1 ∙ own_pattern c.args.x (subst T (sym c.well_formed.0.1) tt)
+    (told _ _ _ TooLow c.root_judged.ensures c.in-TooLow.is).1 ∙ own_pattern c.args.x (subst T (sym c.well_formed.0.1) tt)
 
 pub overflow_sub-result : goal.overflow_sub-result
-overflow_sub-result c = (told _ _ _ TooHigh c.root_judged-v.ensures c.in-TooHigh.is).0
+overflow_sub-result c = (told _ _ _ TooHigh c.root_judged.ensures c.in-TooHigh.is).0
 
 pub float_from_bits-result-in-TooHigh : goal.float_from_bits-result-in-TooHigh
-float_from_bits-result-in-TooHigh c = finite_bits _ (told _ _ _ TooHigh c.root_judged-v.ensures c.in-TooHigh.is).1.0
+float_from_bits-result-in-TooHigh c = finite_bits _ (told _ _ _ TooHigh c.root_judged.ensures c.in-TooHigh.is).1.0
 
 pub returns-in-TooHigh : goal.returns-in-TooHigh
 returns-in-TooHigh c =
-    (told _ _ _ TooHigh c.root_judged-v.ensures c.in-TooHigh.is).1.1 ∙ own_pattern c.args.x (subst T (sym c.well_formed.0.1) tt)
+    (told _ _ _ TooHigh c.root_judged.ensures c.in-TooHigh.is).1.1 ∙ own_pattern c.args.x (subst T (sym c.well_formed.0.1) tt)

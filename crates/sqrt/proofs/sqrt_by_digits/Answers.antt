@@ -5,7 +5,7 @@ use lib.Ieee.{Float, nan, binary64, of_bits, to_bits, fits, is_nan, div}
 use lib.Ieee.Bits.{of_bits-to_bits}
 use Rattle.bits.specs.Fields.{pattern_units}
 use Rattle.elementary.specs.Functions.{sqrt_of}
-use Rattle.bits.proofs.Patterns.{not_nan, pattern_most, not_nan_bits, pattern_units_pos, pattern_value}
+use Rattle.bits.proofs.Patterns.{pattern_most, not_nan_bits, pattern_units_pos, pattern_value}
 use Rattle.elementary.proofs.Roots.{sqrt_of_negative}
 use Rattle.sqrt.proofs.Specials.{at_nan}
 use Rattle.sqrt.proofs.sqrt_by_digits.Goals as goal
@@ -58,11 +58,8 @@ none : div binary64 (of_bits binary64 0) (of_bits binary64 0) ≡ nan
 unfolding div of_bits
 none = refl
 
-pub returns-then-x : goal.returns-then-x
-returns-then-x c = at_nan c.args.x c.if-x.true
-
-pub float_to_bits-b : goal.float_to_bits-b
-float_to_bits-b c = not_nan c.args.x c.if-x.false
+pub returns-then-is_nan : goal.returns-then-is_nan
+returns-then-is_nan c = at_nan c.args.x (sym c.if-is_nan.ensures.value)
 
 pub returns-then-b-eq0 : goal.returns-then-b-eq0
 returns-then-b-eq0 c =
@@ -85,5 +82,5 @@ returns-then-b c =
 
 pub returns : goal.returns
 returns c =
-    none ∙ sym (negative c.args.x (subst T (sym c.well_formed.0.1) tt) (not_nan c.args.x c.if-x.false)
+    none ∙ sym (negative c.args.x (subst T (sym c.well_formed.0.1) tt) c.if-is_nan.ensures.not_nan
     c.if-b-lt9218868437227405312.false c.if-b-eq9218868437227405312.false c.if-b.false)

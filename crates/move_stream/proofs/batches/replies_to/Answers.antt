@@ -37,7 +37,7 @@ loop-record-preserved g c =
     } in
     let chunk = chunk_is b (length b / record_length) k within in
     let place : l.record-index ≡ k = sym v.count in
-    let reply = c.reply_to.ensures in
+    let reply = c.put_reply.ensures in
     record {
       count = omega arith;
       next = omega arith;

@@ -4,4 +4,4 @@ use Rattle.sqrt.proofs.candidate.candidate.Goals as goal
 
 pub returns : goal.returns
 unfolding candidate_of
-returns c = rw (c.leading_digits-a.ensures, c.first_guess-g.ensures)
+returns c = rw (c.leading_digits-a.ensures, c.inverse_root_guess-g.ensures)

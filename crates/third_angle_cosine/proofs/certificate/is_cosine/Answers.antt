@@ -9,8 +9,8 @@ use Rattle.third_angle_cosine.specs.Scaled.{IsOnePlus}
 use Rattle.third_angle_cosine.proofs.Rounding.{certified, rounded_pattern}
 use Rattle.third_angle_cosine.proofs.certificate.is_cosine.Goals as goal
 
-pub returns-then-m-lt4363988038922010624 : goal.returns-then-m-lt4363988038922010624
-returns-then-m-lt4363988038922010624 c = record {
+pub returns-then-t-lt4363988038922010624 : goal.returns-then-t-lt4363988038922010624
+returns-then-t-lt4363988038922010624 c = record {
   yes = λ e. absurd (subst T (sym e) tt);
   sure = λ t l g e o w. absurd (let z : ⊥ = omega arith in z);
 }
@@ -38,7 +38,7 @@ one_plus (suc sign) t e f p q = omega arith
 
 pub returns : goal.returns
 returns c =
-    let sign = c.args.sign in
+    let sign = c.args.t.sign in
     let h = c.args.c - 0x3fe0_0000_0000_0000 in
     record {
       yes =
@@ -46,9 +46,9 @@ returns c =
           ap (of_bits binary64)
           (let z : c.args.c
           ≡ 0x3fd0_0000_0000_0000 + (2 ^ 52 + (c.args.c - 0x3fe0_0000_0000_0000)) = omega arith in z)
-          ∙ rounded_pattern sign c.args.m c.requires.0 c.requires.2 c.requires.1
+          ∙ rounded_pattern sign c.args.t.m c.args.t.sign_bit c.args.t.below c.args.t.least
           (2 ^ 52 + h)
-          (certified sign c.args.m c.requires.0 c.requires.2 _ h c.if-m-lt4363988038922010624.false
+          (certified sign c.args.t.m c.args.t.sign_bit c.args.t.below _ h c.if-t-lt4363988038922010624.false
           (omega arith) (omega arith)
           c.target.ensures.value (c.between.ensures.yes e));
       sure = λ t l g e o w. c.between.ensures.sure

@@ -25,23 +25,23 @@ module _ (m high low : ℕ)
       let l = s.low_fits in
       record { value = omega arith; high_fits = omega arith; low_fits = omega arith }
 
-pub overflow_add-m : goal.overflow_add-m
-overflow_add-m c = let a = and_mask c.args.m 52 in record { fits = omega arith }
+pub overflow_add-t : goal.overflow_add-t
+overflow_add-t c = let a = and_mask c.args.t.m 52 in record { fits = omega arith }
 
-pub shifted-t-requires : goal.shifted-t-requires
-shifted-t-requires c = let a = and_mask c.args.m 52 in (omega arith, omega arith)
+pub shifted-size-requires : goal.shifted-size-requires
+shifted-size-requires c = let a = and_mask c.args.t.m 52 in (omega arith, omega arith)
 
-pub returns-then-sign-eq0 : goal.returns-then-sign-eq0
-returns-then-sign-eq0 c =
-    subst (λ (x : ℕ). Target x c.args.m (0x10_0000_0000_0000 + c.shifted-t.result.high)
-    c.shifted-t.result.low) (sym c.if-sign-eq0.true)
-    (plus c.args.m c.shifted-t.result.high c.shifted-t.result.low
-    c.shifted-t.ensures)
+pub returns-then-t-eq0 : goal.returns-then-t-eq0
+returns-then-t-eq0 c =
+    subst (λ (x : ℕ). Target x c.args.t.m (0x10_0000_0000_0000 + c.shifted-size.result.high)
+    c.shifted-size.result.low) (sym c.if-t-eq0.true)
+    (plus c.args.t.m c.shifted-size.result.high c.shifted-size.result.low
+    c.shifted-size.ensures)
 
 pub returns : goal.returns
 returns c =
-    subst (λ (x : ℕ). Target x c.args.m (0xf_ffff_ffff_ffff - c.shifted-t.result.high)
-    (0x40_0000_0000_0000 - c.shifted-t.result.low))
-    (let z : 1 ≡ c.args.sign = omega (arith, c.if-sign-eq0.false, c.requires.0) in z)
-    (minus c.args.m c.shifted-t.result.high c.shifted-t.result.low
-    c.shifted-t.ensures)
+    subst (λ (x : ℕ). Target x c.args.t.m (0xf_ffff_ffff_ffff - c.shifted-size.result.high)
+    (0x40_0000_0000_0000 - c.shifted-size.result.low))
+    (let z : 1 ≡ c.args.t.sign = omega (arith, c.if-t-eq0.false, c.args.t.sign_bit) in z)
+    (minus c.args.t.m c.shifted-size.result.high c.shifted-size.result.low
+    c.shifted-size.ensures)

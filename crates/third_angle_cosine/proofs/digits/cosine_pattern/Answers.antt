@@ -16,18 +16,18 @@ rounds sign m u r e h = subst (λ (x : ℕ). RoundsTo (scaled sign x) r) e h
 pub rounded_by_digits-requires : goal.rounded_by_digits-requires
 rounded_by_digits-requires c =
     record {
-      valid = c.requires.0;
-      in_binade = in_binade c.args.sign _
-          (subst (λ (u : ℕ). u < 2 ^ 128) (sym c.size_of-u.ensures)
-          (size_lt c.args.m c.requires.1 c.requires.2));
+      valid = c.args.t.sign_bit;
+      in_binade = in_binade c.args.t.sign _
+          (subst (λ (u : ℕ). u < 2 ^ 128) (sym c.size.ensures)
+          (size_lt c.args.t.m c.args.t.least c.args.t.below));
     }
 
 pub overflow_add-result : goal.overflow_add-result
-overflow_add-result c = omega (arith, rounds_fits _ _ (rounds _ _ _ _ c.size_of-u.ensures c.rounded_by_digits.ensures))
+overflow_add-result c = omega (arith, rounds_fits _ _ (rounds _ _ _ _ c.size.ensures c.rounded_by_digits.ensures))
 
 pub returns : goal.returns
 returns c = (
-  omega (arith, rounds_fits _ _ (rounds _ _ _ _ c.size_of-u.ensures c.rounded_by_digits.ensures)),
-  rounded_pattern c.args.sign c.args.m c.requires.0 c.requires.2
-      c.requires.1 c.rounded_by_digits.result (rounds _ _ _ _ c.size_of-u.ensures c.rounded_by_digits.ensures),
+  omega (arith, rounds_fits _ _ (rounds _ _ _ _ c.size.ensures c.rounded_by_digits.ensures)),
+  rounded_pattern c.args.t.sign c.args.t.m c.args.t.sign_bit c.args.t.below
+      c.args.t.least c.rounded_by_digits.result (rounds _ _ _ _ c.size.ensures c.rounded_by_digits.ensures),
 )

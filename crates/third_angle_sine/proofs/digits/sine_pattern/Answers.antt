@@ -42,48 +42,48 @@ is_one s r u e l n h = subst (λ (x : ℕ). RoundsTo (scaled x u e) r) (let z : 
 
 pub binade-e-requires : goal.binade-e-requires
 binade-e-requires c = (
-  subst (λ (u : ℕ). 0 < u) (sym c.size_of-u.ensures)
-      (size_pos c.args.m c.requires.1 c.requires.2),
-  subst (λ (u : ℕ). u ≤ 2 ^ 128 - 2 ^ 75) (sym c.size_of-u.ensures)
-      (size_most c.args.m c.requires.1 c.requires.2),
+  subst (λ (u : ℕ). 0 < u) (sym c.size-u.ensures)
+      (size_pos c.args.t.m c.args.t.least c.args.t.below),
+  subst (λ (u : ℕ). u ≤ 2 ^ 128 - 2 ^ 75) (sym c.size-u.ensures)
+      (size_most c.args.t.m c.args.t.least c.args.t.below),
 )
 
 pub overflow_add-result : goal.overflow_add-result
 overflow_add-result c =
     omega (
       arith,
-      (shifted c.args.sign c.args.m c.binade-e.result _ c.rounded_by_digits-r.result
-          c.requires.0 c.requires.1 c.requires.2 c.binade-e.ensures.1
-          c.size_of-u.ensures
-          (is_zero c.args.sign c.rounded_by_digits-r.result _ c.binade-e.result
-          c.if-sign-eq0.true c.rounded_by_digits-r.ensures)).0,
+      (shifted c.args.t.sign c.args.t.m c.binade-e.result _ c.rounded_by_digits.result
+          c.args.t.sign_bit c.args.t.least c.args.t.below c.binade-e.ensures.1
+          c.size-u.ensures
+          (is_zero c.args.t.sign c.rounded_by_digits.result _ c.binade-e.result
+          c.if-t-eq0.true c.rounded_by_digits.ensures)).0,
     )
 
-pub returns-then-sign-eq0 : goal.returns-then-sign-eq0
-returns-then-sign-eq0 c =
-    shifted c.args.sign c.args.m c.binade-e.result _ c.rounded_by_digits-r.result
-    c.requires.0 c.requires.1 c.requires.2 c.binade-e.ensures.1
-    c.size_of-u.ensures
-    (is_zero c.args.sign c.rounded_by_digits-r.result _ c.binade-e.result
-    c.if-sign-eq0.true c.rounded_by_digits-r.ensures)
+pub returns-then-t-eq0 : goal.returns-then-t-eq0
+returns-then-t-eq0 c =
+    shifted c.args.t.sign c.args.t.m c.binade-e.result _ c.rounded_by_digits.result
+    c.args.t.sign_bit c.args.t.least c.args.t.below c.binade-e.ensures.1
+    c.size-u.ensures
+    (is_zero c.args.t.sign c.rounded_by_digits.result _ c.binade-e.result
+    c.if-t-eq0.true c.rounded_by_digits.ensures)
 
-pub rounded_by_digits-requires : goal.rounded_by_digits-requires
-rounded_by_digits-requires c =
+pub rounded_by_digits-requires-2 : goal.rounded_by_digits-requires-2
+rounded_by_digits-requires-2 c =
     record { valid = (omega arith, omega arith, omega arith, omega arith); in_binade = above_half _ }
 
 pub overflow_add-result-2 : goal.overflow_add-result-2
 overflow_add-result-2 c =
     omega (
       arith,
-      (result c.args.sign c.args.m 0 _ c.rounded_by_digits.result c.requires.0
-          c.requires.1 c.requires.2 (omega arith) c.size_of-u.ensures
-          (is_one c.args.sign c.rounded_by_digits.result _ 0 c.requires.0 c.if-sign-eq0.false
-          c.rounded_by_digits.ensures)).0,
+      (result c.args.t.sign c.args.t.m 0 _ c.rounded_by_digits-2.result c.args.t.sign_bit
+          c.args.t.least c.args.t.below (omega arith) c.size-u.ensures
+          (is_one c.args.t.sign c.rounded_by_digits-2.result _ 0 c.args.t.sign_bit c.if-t-eq0.false
+          c.rounded_by_digits-2.ensures)).0,
     )
 
 pub returns : goal.returns
 returns c =
-    result c.args.sign c.args.m 0 _ c.rounded_by_digits.result c.requires.0
-    c.requires.1 c.requires.2 (omega arith) c.size_of-u.ensures
-    (is_one c.args.sign c.rounded_by_digits.result _ 0 c.requires.0 c.if-sign-eq0.false
-    c.rounded_by_digits.ensures)
+    result c.args.t.sign c.args.t.m 0 _ c.rounded_by_digits-2.result c.args.t.sign_bit
+    c.args.t.least c.args.t.below (omega arith) c.size-u.ensures
+    (is_one c.args.t.sign c.rounded_by_digits-2.result _ 0 c.args.t.sign_bit c.if-t-eq0.false
+    c.rounded_by_digits-2.ensures)

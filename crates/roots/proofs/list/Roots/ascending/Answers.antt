@@ -1,36 +1,21 @@
--- `roots::list::Roots::ascending` meets its contract. Assumes nothing.
-use Prim.Native.Nat.{◌≤◌}
-use native.Mathlib.Omega.{arith}
+-- `roots::list::Roots::ascending` meets its contract. The invariant: the first i values are in order. Assumes nothing.
 use borrow.Author.Rules.{rules}
+use native.Mathlib.Omega.{arith}
+use mathlib.Core.Path.{◌≡◌}
+use lib.ListN.{length}
 use Rattle.roots.specs.List.{ascending_of}
-use Rattle.roots.proofs.Placing.{few_sorted, two_sorted, three_sorted, four_sorted}
+use Rattle.roots.proofs.Placing.{none_so_far, next_so_far, all_so_far}
 use Rattle.roots.proofs.list.Roots.ascending.Goals as goal
 
-pub returns-then-count-lt2 : goal.returns-then-count-lt2
-unfolding ascending_of
-returns-then-count-lt2 c = rw (few_sorted _ c.if-count-lt2.true c.args.self.values (search rules))
+pub loop-i-init : goal.loop-i-init
+loop-i-init c = none_so_far c.args.self.values
 
-pub returns-then-count-eq2 : goal.returns-then-count-eq2
-unfolding ascending_of
-returns-then-count-eq2 c =
-    rw (two_sorted _ c.if-count-eq2.true c.args.self.values (search rules), c.place_second-two.ensures)
-
-pub returns-then-count-eq3 : goal.returns-then-count-eq3
-unfolding ascending_of
-returns-then-count-eq3 c =
-    rw (
-      three_sorted _ c.if-count-eq3.true c.args.self.values (search rules),
-      c.place_third-three.ensures,
-      c.place_second-two.ensures,
-    )
+pub loop-i-preserved : goal.loop-i-preserved
+loop-i-preserved c =
+    let four : length c.args.self.values ≡ 4 = search rules in
+    rw (c.place.ensures, c.loop-i.invariant) (next_so_far c.args.self.values c.loop-i.i (omega arith))
 
 pub returns : goal.returns
 unfolding ascending_of
 returns c =
-    let full : 4 ≤ c.args.self.count = omega arith in
-    rw (
-      four_sorted _ full c.args.self.values (search rules),
-      c.place_fourth.ensures,
-      c.place_third-three.ensures,
-      c.place_second-two.ensures,
-    )
+    rw (c.loop-i.invariant, all_so_far c.args.self.values (search rules) c.args.self.count c.loop-i.i (omega arith))
