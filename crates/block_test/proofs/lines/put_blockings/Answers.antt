@@ -1,5 +1,5 @@
 -- `block_test::lines::put_blockings` meets its contract: the first of the answers are appended. Assumes nothing.
-use Rattle.std.proofs.Common.{arith, Float}
+use Rattle.std.proofs.Common.{ℕ, List, arith, Float}
 use Rattle.profile_lines.specs.Fields.{field}
 use Rattle.profile_lines.proofs.PutLaws.{nothing, then, within, one_more_text}
 use Rattle.block.specs.Blocks.{blocking_of}
