@@ -1,16 +1,15 @@
 -- `moves::lines::put_answer` meets its contract. Assumes nothing.
-use Rattle.moves.specs.Lines.{answer_fields}
-use borrow.Author.Tests.{eq-eqb, ne_eqb}
-use native.Mathlib.Omega.{arith}
+use Rattle.std.proofs.Common.{arith}
+use borrow.Author.Tests.{eq-eqb, ne_eqb, leb-true}
 use Rattle.profile_lines.proofs.PutLaws.{within}
+use Rattle.moves.specs.Lines.{answer_with}
 use Rattle.moves.proofs.lines.put_answer.Goals as goal
 
 pub returns-then-x-eq0 : goal.returns-then-x-eq0
-unfolding answer_fields
-returns-then-x-eq0 c =
-    rw (eq-eqb _ _ c.if-x-eq0.true) c.put_plan.ensures
+unfolding answer_with
+returns-then-x-eq0 g c = rw (eq-eqb _ _ c.if-x-eq0.true) c.put_plan.ensures
 
-pub returns : goal.returns
-unfolding answer_fields
-returns c =
-    rw (ne_eqb _ _ c.if-x-eq0.false) (within (omega arith) c.put_refusal.ensures)
+pub returns-else-x-eq0 : goal.returns-else-x-eq0
+unfolding answer_with
+returns-else-x-eq0 g c =
+    rw (ne_eqb _ _ c.if-x-eq0.false) (within (omega (arith, leb-true _ _ g.met.F.Form.refusals_fit)) c.put_refusal.ensures)
