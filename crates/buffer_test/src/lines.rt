@@ -19,15 +19,16 @@ fn is_unchanged(buffer: &[f64]) -> bool
     ensures { result ≡ is_unchanged buffer.now }
 {
     for &x in buffer {
-        if !(x == -1.0) {
+        if x != -1.0 {
             return false;
         }
     }
     true
 }
 
-fn put_buffer<const N: usize>(line: &mut ArrayVec<u8, N>, status: u64, buffer: &[f64])
-    requires { (array_vec_len line.old + buffer_width ≤ N) × (length buffer.now ≤ buffer_most) }
+#[tactic(auto, unfolding(crate::specs::Lines::buffer_fields))]
+fn put_buffer(line: &mut ArrayVec<u8, LINE_LENGTH>, status: u64, buffer: &[f64])
+    requires { (array_vec_len line.old + buffer_width ≤ line_length) × (length buffer.now ≤ buffer_most) }
     ensures { Appends line.old line.new (buffer_fields status buffer.now) buffer_width }
 {
     if status == 0 {
@@ -40,7 +41,8 @@ fn put_buffer<const N: usize>(line: &mut ArrayVec<u8, N>, status: u64, buffer: &
 }
 
 // For a move and a buffer, and a time that the buffer is asked about.
-pub fn answer(mv: &[f64], buffer: &mut [f64], t: f64) -> ArrayVec<u8, LINE_LENGTH>
+#[tactic(auto, unfolding(crate::specs::Lines::answer_of))]
+pub fn answer_of(mv: &[f64], buffer: &mut [f64], t: f64) -> ArrayVec<u8, LINE_LENGTH>
     requires { length buffer.old ≤ buffer_most }
     ensures { result.items ≡ answer_of mv.now buffer.old t }
 {

@@ -13,7 +13,7 @@ mod lines; // lines.rt: the line that answers a record
 use answering::{Answers, answer_records, read_array};
 use arrayvec::ArrayVec;
 use encoding::{double_at, doubles_at};
-use lines::{LINE_LENGTH, answer};
+use lines::{LINE_LENGTH, answer_of};
 use records::{BUFFER_MOST, MOVE_MOST, RECORD_LENGTH, TIME_AT, count_at};
 use std::io::Read;
 
@@ -36,7 +36,7 @@ impl Answers<LINE_LENGTH> for Buffers {
         let mut buffer = [-1.0; BUFFER_MOST];
         let m = count_at(&of, 0, MOVE_MOST);
         let n = count_at(&of, 1, BUFFER_MOST);
-        answer(&mv[..m], &mut buffer[..n], double_at(&of, TIME_AT))
+        answer_of(&mv[..m], &mut buffer[..n], double_at(&of, TIME_AT))
     }
 }
 
