@@ -3,8 +3,8 @@ use Prim.Native.Nat.{ℕ, zero, suc, ◌+◌, ◌%◌, ◌≤◌, ◌<◌}
 use mathlib.Core.Path.{◌≡◌, refl, sym, ap, ◌∙◌}
 use mathlib.Core.Bool.{Bool, true, false, not, ◌&&◌}
 use mathlib.Core.List.{List, [], ◌∷◌}
+use Rattle.std.proofs.Common.{Option, Some, None, Ok, Err}
 use native.Mathlib.Omega.{arith}
-use borrow.Author.Tests.{ne_eqb}
 use borrow.Kind.Array.{e_struct, good_length}
 use denote.Array.{Array}
 use denote.Laws.{Is}
@@ -18,13 +18,14 @@ use Rattle.profile.specs.Boundary.{empty_profile}
 use Rattle.profile.specs.declared.Profile.{Profile}
 use Rattle.profile.specs.contracts.Profile.{the_row, the_type}
 use Rattle.profile.proofs.Profile.TheLaws.{the_laws, the_copy}
-use Rattle.block.specs.Blocks.{total, no_interval, interval_between, block_of, planned, refused}
+use Rattle.block.specs.Blocks.{total, no_interval, interval_between, block_of, Answer}
 use Rattle.block.specs.Selection.{32ᶠ, 256ᶠ, slot, same_direction, near, of_two, of_three, with_two, of_five}
 use Rattle.block.specs.Selection.{alike_removal, removal, moved_up, without, of_four, selected}
 use Rattle.block.specs.Steps.{or_next, fastest_of_three, removed}
 use Rattle.block.specs.declared.Fastest.{Fastest}
 use Rattle.block.specs.declared.Interval.{Interval}
-use Rattle.block.specs.declared.Answer.{Answer}
+use Rattle.refusals.specs.declared.Refusal.TheVariants.{NoRemoval}
+use Rattle.block.specs.declared.Block.{Block}
 use Rattle.block.proofs.FastestLaws.{fastest_to, fastest_of_three_law, fastest_of_five}
 use Rattle.block.proofs.SelectionLaws.{Same, three_same, five_same, removal_same, moved_below, four_same}
 
@@ -69,44 +70,47 @@ module _ (l : List Profile) (d : Profile) (size : length l ≡ 4) where
   module _ {t0 t1 t2 t3 : Float} (e0 : t0 ≡ total (read l d 0)) (e1 : t1 ≡ total (read l d 1))
       (e2 : t2 ≡ total (read l d 2)) (e3 : t3 ≡ total (read l d 3))
       {x y : Bool} (ex : x ≡ near (32ᶠ *ᶠ eps) t0 t1)
-      (ey : y ≡ same_direction (read l d 0).direction (read l d 1).direction) where
+      (ey : y ≡ not (same_direction (read l d 0).direction (read l d 1).direction)) where
     removal_read : removal (read l d) ≡ removal (slot l)
     removal_read = removal_same (read l d) (slot l) (read_same l d size)
 
-    pub by_first : (x && not y) ≡ true → 1 ≡ removal (slot l)
+    pub by_first : (x && y) ≡ true → Some 1 ≡ removal (slot l)
     unfolding removal
     by_first h = rw (← removal_read, ← e0, ← e1, ← ex, ← ey, h)
 
-    module _ (h1 : (x && not y) ≡ false) {z w : Bool} (ez : z ≡ near (256ᶠ *ᶠ eps) t2 t3)
-        (ew : w ≡ same_direction (read l d 2).direction (read l d 3).direction) where
-      pub by_second : (z && not w) ≡ true → 3 ≡ removal (slot l)
+    module _ (h1 : (x && y) ≡ false) {z w : Bool} (ez : z ≡ near (256ᶠ *ᶠ eps) t2 t3)
+        (ew : w ≡ not (same_direction (read l d 2).direction (read l d 3).direction)) where
+      pub by_second : (z && w) ≡ true → Some 3 ≡ removal (slot l)
       unfolding removal
       by_second h = rw (← removal_read, ← e0, ← e1, ← ex, ← ey, h1, ← e2, ← e3, ← ez, ← ew, h)
 
-      module _ (h2 : (z && not w) ≡ false) {v : Bool} (ev : v ≡ near (256ᶠ *ᶠ eps) t0 t3) where
-        pub by_third : v ≡ true → 3 ≡ removal (slot l)
+      module _ (h2 : (z && w) ≡ false) {v : Bool} (ev : v ≡ near (256ᶠ *ᶠ eps) t0 t3) where
+        pub by_third : v ≡ true → Some 3 ≡ removal (slot l)
         unfolding removal
         by_third h = rw (← removal_read, ← e0, ← e1, ← ex, ← ey, h1, ← e2, ← e3, ← ez, ← ew, h2, ← ev, h)
 
-        pub by_fourth : {k : ℕ} → v ≡ false → k ≡ alike_removal t0 t1 t2 t3 → k ≡ removal (slot l)
+        pub by_fourth : {k : Option ℕ} → v ≡ false → k ≡ alike_removal t0 t1 t2 t3 → k ≡ removal (slot l)
         unfolding removal
         by_fourth h e = rw (← removal_read, ← e0, ← e1, ← ex, ← ey, h1, ← e2, ← e3, ← ez, ← ew, h2, ← ev, h) e
 
-pub four_made : (s : ℕ → Profile) {index : ℕ} {l : List Profile} {r : Answer} → index ≡ removal s → (index ≡ 0 → ⊥)
-    → l ≡ removed index s → r ≡ of_three (slot l) → r ≡ of_four s
+pub four_made : (s : ℕ → Profile) {k : Option ℕ} {index : ℕ} {l : List Profile} {b : Block} → k ≡ removal s
+    → k ≡ Some index → l ≡ removed index s → b ≡ of_three (slot l) → Ok b ≡ of_four s
 unfolding of_four
-four_made s {index} e n el er =
-    rw (← e, ne_eqb index 0 n) (er ∙ rw el (three_same (slot (removed index s)) (without index s)
-    (firsts_same 3 (without index s))))
+four_made s {index = index} e n el eb =
+    rw (← e, n, eb, el) (ap Ok (three_same (slot (removed index s)) (without index s) (firsts_same 3 (without index s))))
+
+pub four_stay : (s : ℕ → Profile) {k : Option ℕ} → k ≡ removal s → k ≡ None → Err NoRemoval ≡ of_four s
+unfolding of_four
+four_stay s e n = rw (← e, n) refl
 
 -- ---- counts 3 and 5
 module _ (l : List Profile) (d : Profile) where
-  pub three_made : {t0 t1 t2 : Float} {f : Fastest} {a b : Interval} {r : Answer} → length l ≡ 3
+  pub three_made : {t0 t1 t2 : Float} {f : Fastest} {a b : Interval} {r : Block} → length l ≡ 3
       → t0 ≡ total (read l d 0) → t1 ≡ total (read l d 1) → t2 ≡ total (read l d 2)
       → f ≡ fastest_of_three t0 t1 t2
       → a ≡ interval_between (read l d ((f.index + 1) % 3)) (read l d ((f.index + 2) % 3))
       → b ≡ no_interval
-      → r ≡ planned (block_of (read l d f.index) a b)
+      → r ≡ block_of (read l d f.index) a b
       → r ≡ of_three (slot l)
   three_made {f = f} {r = r} size e0 e1 e2 ef ea eb er = own ∙ three_same (read l d) (slot l) (read_same l d size)
     where
@@ -116,7 +120,7 @@ module _ (l : List Profile) (d : Profile) where
       own : r ≡ of_three (read l d)
       own = unfold of_three in (er ∙ rw (ea, eb, e) refl)
 
-  pub five_made : {t0 t1 t2 t3 t4 : Float} {f g h : Fastest} {r : Answer} → length l ≡ 5
+  pub five_made : {t0 t1 t2 t3 t4 : Float} {f g h : Fastest} {r : Block} → length l ≡ 5
       → t0 ≡ total (read l d 0) → t1 ≡ total (read l d 1) → t2 ≡ total (read l d 2) → t3 ≡ total (read l d 3)
       → t4 ≡ total (read l d 4)
       → f ≡ fastest_of_three t0 t1 t2 → g ≡ or_next f 3 t3 → h ≡ or_next g 4 t4
@@ -132,37 +136,26 @@ module _ (l : List Profile) (d : Profile) where
       own = unfold of_five in (er ∙ rw e refl)
 
 -- ---- any count
-module _ (l : List Profile) (d : Profile) {n : ℕ} {r : Answer} (size : length l ≡ 6) where
-  pub selected_one : n ≡ 1 → {a b : Interval} → a ≡ no_interval → b ≡ no_interval → r ≡ planned (block_of (read l d 0) a b)
-      → r ≡ selected (slot l) n
+module _ (l : List Profile) (d : Profile) (size : length l ≡ 6) where
+  pub selected_one : {a b : Interval} → a ≡ no_interval → b ≡ no_interval → {r : Block} → r ≡ block_of (read l d 0) a b
+      → Ok r ≡ selected (slot l) 1
   unfolding selected
-  selected_one e ea eb er = rw e (er ∙ rw (ea, eb, read_same l d size 0 (omega arith)) refl)
+  selected_one ea eb er = ap Ok (er ∙ rw (ea, eb, read_same l d size 0 (omega arith)) refl)
 
-  pub selected_two : n ≡ 2 → r ≡ of_two (read l d 0) (read l d 1) → r ≡ selected (slot l) n
+  pub selected_two : {r : Block} → r ≡ of_two (read l d 0) (read l d 1) → Ok r ≡ selected (slot l) 2
   unfolding selected
-  selected_two e er = rw e (er ∙ rw (read_same l d size 0 (omega arith), read_same l d size 1 (omega arith)) refl)
+  selected_two er = ap Ok (er ∙ rw (read_same l d size 0 (omega arith), read_same l d size 1 (omega arith)) refl)
 
-  pub selected_three : n ≡ 3 → r ≡ of_three (slot (firsts 3 (read l d))) → r ≡ selected (slot l) n
+  pub selected_three : {r : Block} → r ≡ of_three (slot (firsts 3 (read l d))) → Ok r ≡ selected (slot l) 3
   unfolding selected
-  selected_three e er =
-      rw e (er ∙ three_same (slot (firsts 3 (read l d))) (slot l) (firsts_read l d size 3 (omega arith)))
+  selected_three er =
+      ap Ok (er ∙ three_same (slot (firsts 3 (read l d))) (slot l) (firsts_read l d size 3 (omega arith)))
 
-  pub selected_four : n ≡ 4 → r ≡ of_four (slot (firsts 4 (read l d))) → r ≡ selected (slot l) n
+  pub selected_four : {r : Answer} → r ≡ of_four (slot (firsts 4 (read l d))) → r ≡ selected (slot l) 4
   unfolding selected
-  selected_four e er =
-      rw e (er ∙ four_same (slot (firsts 4 (read l d))) (slot l) (firsts_read l d size 4 (omega arith)))
+  selected_four er = er ∙ four_same (slot (firsts 4 (read l d))) (slot l) (firsts_read l d size 4 (omega arith))
 
-  pub selected_five : n ≡ 5 → r ≡ of_five (slot (firsts 5 (read l d))) → r ≡ selected (slot l) n
+  pub selected_five : {r : Block} → r ≡ of_five (slot (firsts 5 (read l d))) → Ok r ≡ selected (slot l) 5
   unfolding selected
-  selected_five e er =
-      rw e (er ∙ five_same (slot (firsts 5 (read l d))) (slot l) (firsts_read l d size 5 (omega arith)))
-
-pub selected_none : (s : ℕ → Profile) {n : ℕ} {r : Answer} → n ≡ 0 → r ≡ refused 4 → r ≡ selected s n
-unfolding selected
-selected_none s e er = rw e er
-
-pub selected_above : (s : ℕ → Profile) {n : ℕ} {r : Answer} → (n ≡ 1 → ⊥) → (n ≡ 2 → ⊥) → (n ≡ 3 → ⊥) → (n ≡ 4 → ⊥)
-    → (n ≡ 5 → ⊥) → (n ≡ 0 → ⊥) → r ≡ refused 7 → r ≡ selected s n
-unfolding selected
-selected_above s {n} h1 h2 h3 h4 h5 h0 er =
-    rw (ne_eqb n 1 h1, ne_eqb n 2 h2, ne_eqb n 3 h3, ne_eqb n 4 h4, ne_eqb n 5 h5, ne_eqb n 0 h0) er
+  selected_five er =
+      ap Ok (er ∙ five_same (slot (firsts 5 (read l d))) (slot l) (firsts_read l d size 5 (omega arith)))

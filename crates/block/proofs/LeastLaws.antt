@@ -10,9 +10,10 @@ use lib.Ieee.{Float, is_nan}
 use Rattle.doubles.specs.Operators.{◌*ᶠ◌, ◌<ᶠ◌, ◌≤ᶠ◌}
 use Rattle.doubles.specs.Constants.{8ᶠ, eps}
 use Rattle.profile.specs.declared.Profile.{Profile}
-use Rattle.block.specs.Blocks.{total, block_of, planned}
+use Rattle.block.specs.Blocks.{total, block_of, plan_in}
 use Rattle.block.specs.Selection.{near, of_two, faster, fastest, of_three, with_two, of_five, same_direction, selected}
-use Rattle.block.specs.declared.Answer.{Answer}
+use Rattle.block.specs.declared.Block.{Block}
+use Rattle.refusals.specs.Numbers.{number_of}
 use Rattle.doubles.proofs.CondLaws.{cond_of, cond_by}
 use Rattle.doubles.proofs.ComparisonLaws.{lt_irreflexive, lt_asymmetric, not_through, not_below}
 use Rattle.block.proofs.MemberLaws.{selected_each}
@@ -35,16 +36,16 @@ none_faster s (suc n) i h =
     split : (i n : ℕ) → i < suc n → (i ≡ n) ⊎ (i < n)
     split i n h = eq-or-lt_of_le (omega arith)
 
--- x isn't below the total of the shortest profile of an answer
-abbrev NotFaster : Float → Answer → Type 0
-NotFaster x r = (x <ᶠ total r.block.p_min) ≡ false
+-- x isn't below the total of the shortest profile of a plan
+abbrev NotFaster : Float → Block → Type 0
+NotFaster x b = (x <ᶠ total b.p_min) ≡ false
 
 pub three_least : (s : ℕ → Profile) (i : ℕ) → i < 3 → NotFaster (total (s i)) (of_three s)
-unfolding of_three planned block_of
+unfolding of_three block_of
 three_least s i h = none_faster s 2 i h
 
 pub five_least : (s : ℕ → Profile) (i : ℕ) → i < 5 → NotFaster (total (s i)) (of_five s)
-unfolding of_five with_two planned block_of
+unfolding of_five with_two block_of
 five_least s i h =
     cond_of (NotFaster (total (s i)))
     (same_direction (s ((fastest s 4 + 1) % 5)).direction (s ((fastest s 4 + 2) % 5)).direction) (none_faster s 4 i h)
@@ -53,7 +54,7 @@ five_least s i h =
 -- of two that aren't near
 pub two_least : (p q : Profile) → near (8ᶠ *ᶠ eps) (total p) (total q) ≡ false
     → NotFaster (total p) (of_two p q) × NotFaster (total q) (of_two p q)
-unfolding of_two planned block_of
+unfolding of_two block_of
 two_least p q h =
     rw h (
       cond_by (NotFaster (total p)) (total p <ᶠ total q) (λ _. lt_irreflexive (total p)) (λ g. g),
@@ -63,18 +64,18 @@ two_least p q h =
 
 -- counts 1, 3 and 5: no profile that counts is faster
 pub selected_least : (s : ℕ → Profile) (n i : ℕ) → i < n → (n ≡ 1) ⊎ ((n ≡ 3) ⊎ (n ≡ 5))
-    → NotFaster (total (s i)) (selected s n)
+    → NotFaster (total (s i)) (plan_in (selected s n))
 unfolding selected
 selected_least s n i h (inl e) =
     let z : i ≡ 0 = omega arith in
-    rw (e, z) (unfold planned block_of in (lt_irreflexive (total (s 0))))
+    rw (e, z) (unfold block_of in (lt_irreflexive (total (s 0))))
 selected_least s n i h (inr (inl e)) = rw e (three_least s i (omega arith))
 selected_least s n i h (inr (inr e)) = rw e (five_least s i (omega arith))
 
 -- and where the totals are numbers, the shortest profile's is least
 pub selected_least_number : (s : ℕ → Profile) (n i : ℕ) → i < n → (n ≡ 1) ⊎ ((n ≡ 3) ⊎ (n ≡ 5))
-    → (selected s n).refusal ≡ 0 → ((k : ℕ) → k < n → is_nan (total (s k)) ≡ false)
-    → T (total (selected s n).block.p_min ≤ᶠ total (s i))
+    → number_of (selected s n) ≡ 0 → ((k : ℕ) → k < n → is_nan (total (s k)) ≡ false)
+    → T (total (plan_in (selected s n)).p_min ≤ᶠ total (s i))
 selected_least_number s n i h c e numbers =
     not_below _ _ (numbers i h) (selected_each (λ (q : Profile). is_nan (total q) ≡ false) s n numbers e).shortest
     (selected_least s n i h c)

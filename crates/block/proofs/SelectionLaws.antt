@@ -1,11 +1,13 @@
 -- Selection depends on the profiles that count alone. Assumes nothing.
 use Prim.Native.Nat.{ℕ, ◌+◌, ◌%◌, ◌<◌}
-use mathlib.Core.Path.{◌≡◌, refl}
+use mathlib.Core.Path.{◌≡◌, refl, ap, ◌∙◌}
+use Rattle.std.proofs.Common.{Option, Some, None, Ok}
 use native.Mathlib.Omega.{arith}
 use borrow.Author.Tests.{eqb-true}
 use lib.Dec.{ltb, eqb}
 use Rattle.profile.specs.declared.Profile.{Profile}
-use Rattle.block.specs.Selection.{fastest, of_three, of_five, removal, moved_up, without, of_four, selected}
+use Rattle.block.specs.Selection.{fastest, of_three, of_five, removal, moved_up, without, of_others}
+use Rattle.block.specs.Selection.{of_four, selected}
 use Rattle.doubles.proofs.CondLaws.{cond_of, cond_same}
 use Rattle.block.proofs.FastestLaws.{fastest_below, fastest_same}
 
@@ -47,12 +49,13 @@ moved_below n index i h = cond_of (λ (k : ℕ). k < n) (ltb i index) {x = i} {y
 module _ (s r : ℕ → Profile) where
   pub four_same : Same 4 s r → of_four s ≡ of_four r
   unfolding of_four
-  four_same h =
-      let e : removal s ≡ removal r = removal_same s r h in
-      let f : of_three (without (removal s) s) ≡ of_three (without (removal s) r) =
-      three_same (without (removal s) s) (without (removal s) r)
-      (λ i l. h (moved_up (removal s) i) (moved_below 4 (removal s) i (omega arith))) in
-      rw (f, e)
+  four_same h = by_removal (removal s) ∙ ap (of_others r) (removal_same s r h)
+    where
+      by_removal : (k : Option ℕ) → of_others s k ≡ of_others r k
+      by_removal None = refl
+      by_removal (Some index) =
+          ap Ok (three_same (without index s) (without index r)
+          (λ i l. h (moved_up index i) (moved_below 4 index i (omega arith))))
 
 -- so the whole answer is the same where the profiles that count are
 pub selected_same : (s r : ℕ → Profile) (n : ℕ) → Same n s r → selected s n ≡ selected r n
@@ -60,6 +63,6 @@ unfolding selected
 selected_same s r n h =
     cond_same (eqb n 1) (λ e. let k : n ≡ 1 = eqb-true n 1 e in rw (h 0 (omega arith)))
     (λ _. cond_same (eqb n 2) (λ e. let k : n ≡ 2 = eqb-true n 2 e in rw (h 0 (omega arith), h 1 (omega arith)))
-    (λ _. cond_same (eqb n 3) (λ e. three_same s r (rw (eqb-true n 3 e) at h))
+    (λ _. cond_same (eqb n 3) (λ e. ap Ok (three_same s r (rw (eqb-true n 3 e) at h)))
     (λ _. cond_same (eqb n 4) (λ e. four_same s r (rw (eqb-true n 4 e) at h))
-    (λ _. cond_same (eqb n 5) (λ e. five_same s r (rw (eqb-true n 5 e) at h)) (λ _. refl)))))
+    (λ _. cond_same (eqb n 5) (λ e. ap Ok (five_same s r (rw (eqb-true n 5 e) at h))) (λ _. refl)))))

@@ -8,7 +8,8 @@ use lib.Ieee.Bits.{is_false}
 use lib.Ieee.Scale.{finite}
 use Rattle.doubles.specs.Operators.{◌<ᶠ◌, ◌≤ᶠ◌}
 use Rattle.profile.specs.declared.Profile.{Profile}
-use Rattle.block.specs.Blocks.{duration, no_interval, interval_between, block_of, inside}
+use Rattle.block.specs.Blocks.{duration, no_interval, interval_between, block_of, inside, plan_in}
+use Rattle.refusals.specs.Numbers.{number_of}
 use Rattle.block.specs.Selection.{selected}
 use Rattle.block.specs.Plans.{in_order, IntervalOf, none, some, BlockOf, chosen}
 use Rattle.block.specs.declared.Stretch.TheVariants.{Between, From}
@@ -30,8 +31,8 @@ interval_in_order : (s : ℕ → Profile) (n : ℕ) {a : Interval} → IntervalO
 interval_in_order s n none = unfold no_interval in tt
 interval_in_order s n (some i j hi hj) = between_in_order (s i) (s j)
 
-pub selected_in_order : (s : ℕ → Profile) (n : ℕ) → (selected s n).refusal ≡ 0
-    → T (in_order (selected s n).block.a.stretch) × T (in_order (selected s n).block.b.stretch)
+pub selected_in_order : (s : ℕ → Profile) (n : ℕ) → number_of (selected s n) ≡ 0
+    → T (in_order (plan_in (selected s n)).a.stretch) × T (in_order (plan_in (selected s n)).b.stretch)
 selected_in_order s n e = go (plan_of s n e)
   where
     go : {b : Block} → BlockOf s n b → T (in_order b.a.stretch) × T (in_order b.b.stretch)

@@ -1,5 +1,5 @@
 -- A plan: the shortest of the accepted profiles and at most two blocked stretches of time. Which times are blocked. Definitions only.
-use Rattle.std.specs.Prelude.{ℕ, ◌≡◌, Bool, false, cond, ◌&&◌, ◌||◌, List, [], ◌∷◌, ◌↔◌, Float}
+use Rattle.std.specs.Prelude.{ℕ, ◌≡◌, Bool, true, false, cond, ◌&&◌, ◌||◌, List, [], ◌∷◌, ◌↔◌, Result, Ok, Err, Float}
 use Rattle.std.specs.Float.{inf}
 use Rattle.std.specs.Float.Ieee.Scale.{finite}
 use Rattle.doubles.specs.Operators.{◌+ᶠ◌, ◌<ᶠ◌, at}
@@ -10,9 +10,9 @@ use Rattle.block.specs.declared.Stretch.{Stretch}
 use Rattle.block.specs.declared.Stretch.TheVariants.{Nothing, Between, From}
 use Rattle.block.specs.declared.Interval.{Interval}
 use Rattle.block.specs.declared.Block.{Block}
-use Rattle.block.specs.declared.Answer.{Answer}
-use Rattle.block.specs.declared.Blocking.{Blocking}
-use Rattle.block.specs.declared.Blocking.TheVariants.{Blocked, Free, NotFinite}
+use Rattle.refusals.specs.declared.Refusal.{Refusal}
+use Rattle.refusals.specs.declared.Refusal.TheVariants.{TimeNotFinite}
+use Rattle.refusals.specs.Numbers.{refusal_number}
 
 -- the sum of a profile's seven times, and what a move by it takes with brake and accel
 unfoldable pub total : Profile → Float
@@ -43,12 +43,14 @@ block_of q a b = record { t_min = duration q; p_min = q; a = a; b = b }
 unfoldable pub empty_block : Block
 empty_block = record { t_min = 0ᶠ; p_min = empty_profile; a = no_interval; b = no_interval }
 
--- a plan, and a refusal by its number, which leaves the empty plan
-unfoldable pub planned : Block → Answer
-planned b = record { refusal = 0; block = b }
+-- a plan, or why there is none
+abbrev pub Answer : Type 0
+Answer = Result Block Refusal
 
-unfoldable pub refused : ℕ → Answer
-refused n = record { refusal = n; block = empty_block }
+-- its plan; a refusal leaves the empty plan
+abbrev pub plan_in : Answer → Block
+plan_in (Ok b) = b
+plan_in (Err refusal) = empty_block
 
 -- ---- document 01's values for each case of a stretch
 
@@ -97,17 +99,17 @@ inside (From left) t = left <ᶠ t
 unfoldable pub is_blocked : Block → Float → Bool
 is_blocked b t = (t <ᶠ b.t_min) || inside b.a.stretch t || inside b.b.stretch t
 
--- `is_blocked`: yes, no, or for a time that isn't finite neither
-unfoldable pub blocking_of : Block → Float → Blocking
-blocking_of b t = cond (finite t) (cond (is_blocked b t) Blocked Free) NotFinite
+-- `is_blocked`: yes or no, and for a time that isn't finite a refusal
+unfoldable pub blocking_of : Block → Float → Result Bool Refusal
+blocking_of b t = cond (finite t) (Ok (is_blocked b t)) (Err TimeNotFinite)
 
--- the number of each answer: of no 0, of yes 1, and of neither document 01's 6
-abbrev pub blocking_number : Blocking → ℕ
-blocking_number Free = 0
-blocking_number Blocked = 1
-blocking_number NotFinite = 6
+-- the number of each answer: of no 0, of yes 1, and of a refusal its own
+abbrev pub blocking_number : Result Bool Refusal → ℕ
+blocking_number (Ok false) = 0
+blocking_number (Ok true) = 1
+blocking_number (Err refusal) = refusal_number refusal
 
 -- what `is_blocked` says of the time t: the definition's answer, whose number is 6 if and only if t isn't finite
-pub record Says (b : Block) (t : Float) (r : Blocking) : Type 0 where
+pub record Says (b : Block) (t : Float) (r : Result Bool Refusal) : Type 0 where
   pub answer : r ≡ blocking_of b t
   pub six : (blocking_number r ≡ 6) ↔ (finite t ≡ false)

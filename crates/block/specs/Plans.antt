@@ -1,15 +1,15 @@
 -- What is said of the profiles and the stretches of a plan. Definitions only.
-use Rattle.std.specs.Prelude.{ℕ, ◌<◌, ◌≡◌, Bool, true, false, not, cond, ◌&&◌, eqb, ltb}
+use Rattle.std.specs.Prelude.{ℕ, ◌<◌, ◌≡◌, Bool, true, false, not, cond, ◌&&◌, is_none, Ok, Err, eqb, ltb}
 use Rattle.doubles.specs.Operators.{◌<ᶠ◌}
 use Rattle.profile.specs.Boundary.{empty_profile}
 use Rattle.profile.specs.declared.Profile.{Profile}
-use Rattle.block.specs.Blocks.{total, duration, no_interval, interval_between, block_of, planned, refused}
+use Rattle.block.specs.Blocks.{total, duration, no_interval, interval_between, block_of, Answer}
 use Rattle.block.specs.Selection.{removal}
 use Rattle.block.specs.declared.Stretch.{Stretch}
 use Rattle.block.specs.declared.Stretch.TheVariants.{Nothing, Between, From}
 use Rattle.block.specs.declared.Interval.{Interval}
 use Rattle.block.specs.declared.Block.{Block}
-use Rattle.block.specs.declared.Answer.{Answer}
+use Rattle.refusals.specs.declared.Refusal.{Refusal}
 
 -- P holds of the profile beside a stretch between two times; beside any other lies the empty profile
 abbrev pub Beside : (Profile → Type 0) → Stretch → Profile → Type 0
@@ -53,10 +53,10 @@ pub data BlockOf (s : ℕ → Profile) (n : ℕ) : Block → Type 0 where
 
 -- such a plan, or a refusal
 pub data AnswerOf (s : ℕ → Profile) (n : ℕ) : Answer → Type 0 where
-  plan : {b : Block} → BlockOf s n b → AnswerOf s n (planned b)
-  refusal : (k : ℕ) → 0 < k → AnswerOf s n (refused k)
+  plan : {b : Block} → BlockOf s n b → AnswerOf s n (Ok b)
+  refusal : (k : Refusal) → AnswerOf s n (Err k)
 
 -- the number of the refusal: 4 for count 0, 7 for a count above 5, 5 where four count and no removal rule applies; 0
 -- for a plan
 abbrev pub refusal_of : (ℕ → Profile) → ℕ → ℕ
-refusal_of s n = cond (eqb n 0) 4 (cond (ltb 5 n) 7 (cond (eqb n 4 && eqb (removal s) 0) 5 0))
+refusal_of s n = cond (eqb n 0) 4 (cond (ltb 5 n) 7 (cond (eqb n 4 && is_none (removal s)) 5 0))

@@ -2,6 +2,7 @@
 -- Definitions only.
 -- Every comparison stands with the Rust's sides: with a NaN it is false, so it may not be turned round.
 use Rattle.std.specs.Prelude.{ℕ, zero, suc, ◌+◌, ◌%◌, Bool, true, false, cond, not, ◌&&◌, List, eqb, ltb, get_or, Float}
+use Rattle.std.specs.Prelude.{Option, Some, None, Ok, Err}
 use Rattle.std.specs.Float.{binary64}
 use Rattle.std.specs.Float.Ieee.{of_bits}
 use Rattle.doubles.specs.Operators.{◌+ᶠ◌, ◌-ᶠ◌, ◌*ᶠ◌, ◌<ᶠ◌}
@@ -11,8 +12,9 @@ use Rattle.profile.specs.Boundary.{empty_profile}
 use Rattle.profile.specs.declared.Profile.{Profile}
 use Rattle.profile.specs.declared.Direction.{Direction}
 use Rattle.profile.specs.declared.Direction.TheVariants.{UP, DOWN}
-use Rattle.block.specs.Blocks.{total, no_interval, interval_between, block_of, planned, refused}
-use Rattle.block.specs.declared.Answer.{Answer}
+use Rattle.refusals.specs.declared.Refusal.TheVariants.{NoProfile, NoRemoval, TooManyProfiles}
+use Rattle.block.specs.Blocks.{total, no_interval, interval_between, block_of, Answer}
+use Rattle.block.specs.declared.Block.{Block}
 
 -- the numbers of the removal rules
 abbrev pub 32ᶠ : Float
@@ -42,12 +44,12 @@ near e t u = absᶠ (t -ᶠ u) <ᶠ e
 
 -- under 8 EPS apart: the first, no stretch; else the first if its total is less, else the second, blocked up to the
 -- other
-unfoldable pub of_two : Profile → Profile → Answer
+unfoldable pub of_two : Profile → Profile → Block
 of_two p q =
-    cond (near (8ᶠ *ᶠ eps) (total p) (total q)) (planned (block_of p no_interval no_interval))
+    cond (near (8ᶠ *ᶠ eps) (total p) (total q)) (block_of p no_interval no_interval)
     (cond (total p <ᶠ total q)
-    (planned (block_of p (interval_between p q) no_interval))
-    (planned (block_of q (interval_between q p) no_interval)))
+    (block_of p (interval_between p q) no_interval)
+    (block_of q (interval_between q p) no_interval))
 
 -- ---- counts 3 and 5
 
@@ -62,21 +64,21 @@ fastest s zero = 0
 fastest s (suc n) = faster s (fastest s n) (suc n)
 
 -- the stretch is between the other two
-unfoldable pub of_three : (ℕ → Profile) → Answer
+unfoldable pub of_three : (ℕ → Profile) → Block
 of_three s =
     let i = fastest s 2 in
-    planned (block_of (s i) (interval_between (s ((i + 1) % 3)) (s ((i + 2) % 3))) no_interval)
+    block_of (s i) (interval_between (s ((i + 1) % 3)) (s ((i + 2) % 3))) no_interval
 
 -- the shortest p and four others, in the order in which they follow it: the stretches are between the first two and
 -- between the last two if the first two have the same direction, else between the outer two and between the inner two
-unfoldable pub with_two : (p q1 q2 q3 q4 : Profile) → Answer
+unfoldable pub with_two : (p q1 q2 q3 q4 : Profile) → Block
 with_two p q1 q2 q3 q4 =
     cond (same_direction q1.direction q2.direction)
-    (planned (block_of p (interval_between q1 q2) (interval_between q3 q4)))
-    (planned (block_of p (interval_between q1 q4) (interval_between q2 q3)))
+    (block_of p (interval_between q1 q2) (interval_between q3 q4))
+    (block_of p (interval_between q1 q4) (interval_between q2 q3))
 
 -- the others follow the fastest round the end
-unfoldable pub of_five : (ℕ → Profile) → Answer
+unfoldable pub of_five : (ℕ → Profile) → Block
 of_five s =
     let i = fastest s 4 in
     with_two (s i) (s ((i + 1) % 5)) (s ((i + 2) % 5)) (s ((i + 3) % 5)) (s ((i + 4) % 5))
@@ -87,23 +89,23 @@ of_five s =
 unfoldable pub alike : Float → Float → Bool
 alike t u = near (1e-12ᶠ *ᶠ (1ᶠ +ᶠ absᶠ t)) t u
 
--- the last rule: the index of the later of the first two totals that are alike; 0 if no two are
-unfoldable pub alike_removal : (t0 t1 t2 t3 : Float) → ℕ
+-- the last rule: the index of the later of the first two totals that are alike; none if no two are
+unfoldable pub alike_removal : (t0 t1 t2 t3 : Float) → Option ℕ
 alike_removal t0 t1 t2 t3 =
-    cond (alike t0 t1) 1
-    (cond (alike t0 t2) 2
-    (cond (alike t0 t3) 3
-    (cond (alike t1 t2) 2
-    (cond (alike t1 t3) 3
-    (cond (alike t2 t3) 3 0)))))
+    cond (alike t0 t1) (Some 1)
+    (cond (alike t0 t2) (Some 2)
+    (cond (alike t0 t3) (Some 3)
+    (cond (alike t1 t2) (Some 2)
+    (cond (alike t1 t3) (Some 3)
+    (cond (alike t2 t3) (Some 3) None)))))
 
--- the index of the profile that goes, by the four rules in turn; 0 if none applies, as none removes the first
-unfoldable pub removal : (ℕ → Profile) → ℕ
+-- the index of the profile that goes, by the four rules in turn; none if none applies. No rule removes the first
+unfoldable pub removal : (ℕ → Profile) → Option ℕ
 removal s =
     let t : ℕ → Float = λ i. total (s i) in
-    cond (near (32ᶠ *ᶠ eps) (t 0) (t 1) && not (same_direction (s 0).direction (s 1).direction)) 1
-    (cond (near (256ᶠ *ᶠ eps) (t 2) (t 3) && not (same_direction (s 2).direction (s 3).direction)) 3
-    (cond (near (256ᶠ *ᶠ eps) (t 0) (t 3)) 3
+    cond (near (32ᶠ *ᶠ eps) (t 0) (t 1) && not (same_direction (s 0).direction (s 1).direction)) (Some 1)
+    (cond (near (256ᶠ *ᶠ eps) (t 2) (t 3) && not (same_direction (s 2).direction (s 3).direction)) (Some 3)
+    (cond (near (256ᶠ *ᶠ eps) (t 0) (t 3)) (Some 3)
     (alike_removal (t 0) (t 1) (t 2) (t 3))))
 
 -- `remove_profile`: those after the index move up
@@ -114,15 +116,19 @@ abbrev pub without : ℕ → (ℕ → Profile) → (ℕ → Profile)
 without index s i = s (moved_up index i)
 
 -- as for three, without the profile that goes
+abbrev pub of_others : (ℕ → Profile) → Option ℕ → Answer
+of_others s (Some index) = Ok (of_three (without index s))
+of_others s None = Err NoRemoval
+
 unfoldable pub of_four : (ℕ → Profile) → Answer
-of_four s = cond (eqb (removal s) 0) (refused 5) (of_three (without (removal s) s))
+of_four s = of_others s (removal s)
 
 -- ---- any count
 unfoldable pub selected : (ℕ → Profile) → ℕ → Answer
 selected s n =
-    cond (eqb n 1) (planned (block_of (s 0) no_interval no_interval))
-    (cond (eqb n 2) (of_two (s 0) (s 1))
-    (cond (eqb n 3) (of_three s)
+    cond (eqb n 1) (Ok (block_of (s 0) no_interval no_interval))
+    (cond (eqb n 2) (Ok (of_two (s 0) (s 1)))
+    (cond (eqb n 3) (Ok (of_three s))
     (cond (eqb n 4) (of_four s)
-    (cond (eqb n 5) (of_five s)
-    (cond (eqb n 0) (refused 4) (refused 7))))))
+    (cond (eqb n 5) (Ok (of_five s))
+    (cond (eqb n 0) (Err NoProfile) (Err TooManyProfiles))))))

@@ -4,9 +4,10 @@
 
 ghost use Rattle.std.specs.Prelude.{◌≡◌, ◌≤◌};
 ghost use Rattle.block.specs.Blocks.{total, duration, no_interval, interval_from, interval_between, block_of};
-ghost use Rattle.block.specs.Blocks.{planned, refused, count_of, left_end, right_end, inside, Says};
+ghost use Rattle.block.specs.Blocks.{empty_block, count_of, left_end, right_end, inside, Says};
 
 use profile::Profile;
+use refusals::Refusal;
 
 mod select; // select.rt: calculate_block
 mod removal; // removal.rt: which of four profiles goes
@@ -35,21 +36,6 @@ pub struct Block {
     pub b: Interval,
 }
 
-// A plan, with 0, or the number of the refusal, with the empty plan.
-#[derive(Clone, Copy)]
-pub struct Answer {
-    pub refusal: u64,
-    pub block: Block,
-}
-
-// Whether a time is blocked. A time that isn't finite is refused.
-#[derive(Clone, Copy)]
-pub enum Blocking {
-    Blocked,
-    Free,
-    NotFinite,
-}
-
 // The index of the least total of those seen from the front, and that total.
 #[derive(Clone, Copy)]
 struct Fastest {
@@ -58,6 +44,7 @@ struct Fastest {
 }
 
 // The sum of a profile's seven times.
+#[tactic(auto, unfolding(crate::specs::Blocks::total))]
 pub fn total(p: Profile) -> f64
     ensures { result ≡ total p }
 {
@@ -65,6 +52,7 @@ pub fn total(p: Profile) -> f64
 }
 
 // The same with brake and accel.
+#[tactic(auto, unfolding(crate::specs::Blocks::total, crate::specs::Blocks::duration))]
 pub fn duration(p: Profile) -> f64
     ensures { result ≡ duration p }
 {
@@ -72,6 +60,7 @@ pub fn duration(p: Profile) -> f64
 }
 
 impl Interval {
+    #[tactic(auto, unfolding(crate::specs::Blocks::no_interval))]
     pub fn none() -> Interval
         ensures { result ≡ no_interval }
     {
@@ -83,6 +72,7 @@ impl Interval {
     }
 
     // From a time on.
+    #[tactic(auto, unfolding(crate::specs::Blocks::interval_from))]
     pub fn from(t: f64) -> Interval
         ensures { result ≡ interval_from t }
     {
@@ -93,6 +83,7 @@ impl Interval {
         }
     }
 
+    #[tactic(auto, unfolding(crate::specs::Blocks::interval_between))]
     pub fn from_profiles(profile_left: Profile, profile_right: Profile) -> Interval
         ensures { result ≡ interval_between profile_left profile_right }
     {
@@ -108,35 +99,6 @@ impl Interval {
                 stretch: Stretch::Between(right, left),
                 profile: profile_left,
             }
-        }
-    }
-}
-
-impl Answer {
-    // The plan with this profile as the shortest.
-    pub fn planned(p_min: Profile, a: Interval, b: Interval) -> Answer
-        ensures { result ≡ planned (block_of p_min a b) }
-    {
-        let t_min = duration(p_min);
-        Answer {
-            refusal: 0,
-            block: Block { t_min, p_min, a, b },
-        }
-    }
-
-    pub fn refused(number: u64) -> Answer
-        ensures { result ≡ refused number }
-    {
-        let p_min = Profile::empty();
-        let none = Interval::none();
-        Answer {
-            refusal: number,
-            block: Block {
-                t_min: 0.0,
-                p_min,
-                a: none,
-                b: none,
-            },
         }
     }
 }
@@ -159,8 +121,7 @@ impl Stretch {
     {
         match self {
             Stretch::Nothing => 0,
-            Stretch::Between(_, _) => 1,
-            Stretch::From(_) => 1,
+            Stretch::Between(_, _) | Stretch::From(_) => 1,
         }
     }
 
@@ -170,8 +131,7 @@ impl Stretch {
     {
         match self {
             Stretch::Nothing => 0.0,
-            Stretch::Between(left, _) => left,
-            Stretch::From(left) => left,
+            Stretch::Between(left, _) | Stretch::From(left) => left,
         }
     }
 
@@ -181,26 +141,47 @@ impl Stretch {
         match self {
             Stretch::Nothing => 0.0,
             Stretch::Between(_, right) => right,
-            Stretch::From(_) => 1.0 / 0.0,
+            Stretch::From(_) => f64::INFINITY,
         }
     }
 }
 
 impl Block {
-    pub fn is_blocked(self, t: f64) -> Blocking
+    // The plan with this profile as the shortest.
+    #[tactic(auto, unfolding(crate::specs::Blocks::block_of))]
+    pub fn new(p_min: Profile, a: Interval, b: Interval) -> Block
+        ensures { result ≡ block_of p_min a b }
+    {
+        Block {
+            t_min: duration(p_min),
+            p_min,
+            a,
+            b,
+        }
+    }
+
+    // The plan that a refusal leaves.
+    #[tactic(auto, unfolding(crate::specs::Blocks::empty_block))]
+    pub fn empty() -> Block
+        ensures { result ≡ empty_block }
+    {
+        Block {
+            t_min: 0.0,
+            p_min: Profile::empty(),
+            a: Interval::none(),
+            b: Interval::none(),
+        }
+    }
+
+    // Whether a time is blocked. A time that isn't finite is refused.
+    pub fn is_blocked(self, t: f64) -> Result<bool, Refusal>
         ensures { Says self t result }
     {
         if !doubles::is_finite(t) {
-            return Blocking::NotFinite;
+            return Err(Refusal::TimeNotFinite);
         }
-        let interval_a = self.a;
-        let interval_b = self.b;
-        let a = interval_a.stretch;
-        let b = interval_b.stretch;
-        if (t < self.t_min) | a.contains(t) | b.contains(t) {
-            Blocking::Blocked
-        } else {
-            Blocking::Free
-        }
+        let a = self.a.stretch;
+        let b = self.b.stretch;
+        Ok((t < self.t_min) | a.contains(t) | b.contains(t))
     }
 }

@@ -5,13 +5,15 @@ ghost use Rattle.std.specs.Prelude.{◌≡◌, ◌<◌};
 ghost use Rattle.block.specs.Selection.{slot, of_two, of_three, with_two, of_five, moved_up, of_four, selected};
 ghost use Rattle.block.specs.Steps.{or_next, fastest_of_three, removed};
 
-use crate::removal::{near, removal, same_direction};
-use crate::{Answer, Block, Fastest, Interval, total};
+use crate::removal::{near, removal};
+use crate::{Block, Fastest, Interval, total};
 use doubles::EPSILON;
 use profile::Profile;
+use refusals::Refusal;
 
 impl Fastest {
     // With the next one. A comparison with NaN counts as equality.
+    #[tactic(auto, unfolding(crate::specs::Steps::or_next))]
     fn or(self, index: usize, total: f64) -> Fastest
         ensures { result ≡ or_next self index total }
     {
@@ -33,21 +35,22 @@ fn fastest_of_three(t0: f64, t1: f64, t2: f64) -> Fastest
     first.or(1, t1).or(2, t2)
 }
 
-fn of_two(p: Profile, q: Profile) -> Answer
+#[tactic(auto, unfolding(crate::specs::Selection::of_two))]
+fn of_two(p: Profile, q: Profile) -> Block
     ensures { result ≡ of_two p q }
 {
     let t = total(p);
     let u = total(q);
     if near(8.0 * EPSILON, t, u) {
-        return Answer::planned(p, Interval::none(), Interval::none());
+        return Block::new(p, Interval::none(), Interval::none());
     }
     if t < u {
-        return Answer::planned(p, Interval::from_profiles(p, q), Interval::none());
+        return Block::new(p, Interval::from_profiles(p, q), Interval::none());
     }
-    Answer::planned(q, Interval::from_profiles(q, p), Interval::none())
+    Block::new(q, Interval::from_profiles(q, p), Interval::none())
 }
 
-fn of_three(profiles: [Profile; 3]) -> Answer
+fn of_three(profiles: [Profile; 3]) -> Block
     ensures { result ≡ of_three (slot profiles) }
 {
     let p0 = profiles[0];
@@ -58,7 +61,7 @@ fn of_three(profiles: [Profile; 3]) -> Answer
     let p_min = profiles[i];
     let left = profiles[(i + 1) % 3];
     let right = profiles[(i + 2) % 3];
-    Answer::planned(
+    Block::new(
         p_min,
         Interval::from_profiles(left, right),
         Interval::none(),
@@ -66,6 +69,7 @@ fn of_three(profiles: [Profile; 3]) -> Answer
 }
 
 // Which of four profiles is at i once the one at the index is gone.
+#[tactic(auto, unfolding(crate::specs::Selection::moved_up))]
 fn moved_up(index: usize, i: usize) -> usize
     requires { i < 3 }
     ensures { result ≡ moved_up index i }
@@ -82,37 +86,34 @@ fn remove_profile(profiles: [Profile; 4], index: usize) -> [Profile; 3]
     [first, second, third]
 }
 
-fn of_four(profiles: [Profile; 4]) -> Answer
+fn of_four(profiles: [Profile; 4]) -> Result<Block, Refusal>
     ensures { result ≡ of_four (slot profiles) }
 {
-    let index = removal(profiles);
-    if index == 0 {
-        return Answer::refused(5);
+    match removal(profiles) {
+        Some(index) => Ok(of_three(remove_profile(profiles, index))),
+        None => Err(Refusal::NoRemoval),
     }
-    of_three(remove_profile(profiles, index))
 }
 
 // The shortest of five and the others, in the order in which they follow it.
-fn with_two(p_min: Profile, q1: Profile, q2: Profile, q3: Profile, q4: Profile) -> Answer
+fn with_two(p_min: Profile, q1: Profile, q2: Profile, q3: Profile, q4: Profile) -> Block
     ensures { result ≡ with_two p_min q1 q2 q3 q4 }
 {
-    let d1 = q1.direction;
-    let d2 = q2.direction;
-    if same_direction(d1, d2) {
-        return Answer::planned(
+    if q1.direction == q2.direction {
+        return Block::new(
             p_min,
             Interval::from_profiles(q1, q2),
             Interval::from_profiles(q3, q4),
         );
     }
-    Answer::planned(
+    Block::new(
         p_min,
         Interval::from_profiles(q1, q4),
         Interval::from_profiles(q2, q3),
     )
 }
 
-fn of_five(profiles: [Profile; 5]) -> Answer
+fn of_five(profiles: [Profile; 5]) -> Block
     ensures { result ≡ of_five (slot profiles) }
 {
     let p0 = profiles[0];
@@ -133,33 +134,19 @@ fn of_five(profiles: [Profile; 5]) -> Answer
 }
 
 impl Block {
-    // The plan for the first `count` profiles of a list, or the number of the refusal.
-    pub fn calculate_block(valid_profiles: [Profile; 6], count: usize) -> Answer
+    // The plan for the first `count` profiles of a list: document 01 has the list with its count.
+    pub fn calculate_block(valid_profiles: [Profile; 6], count: usize) -> Result<Block, Refusal>
         ensures { result ≡ selected (slot valid_profiles) count }
     {
-        let p0 = valid_profiles[0];
-        let p1 = valid_profiles[1];
-        if count == 1 {
-            return Answer::planned(p0, Interval::none(), Interval::none());
+        let p = &valid_profiles;
+        match count {
+            0 => Err(Refusal::NoProfile),
+            1 => Ok(Block::new(p[0], Interval::none(), Interval::none())),
+            2 => Ok(of_two(p[0], p[1])),
+            3 => Ok(of_three([p[0], p[1], p[2]])),
+            4 => of_four([p[0], p[1], p[2], p[3]]),
+            5 => Ok(of_five([p[0], p[1], p[2], p[3], p[4]])),
+            _ => Err(Refusal::TooManyProfiles),
         }
-        if count == 2 {
-            return of_two(p0, p1);
-        }
-        let p2 = valid_profiles[2];
-        let p3 = valid_profiles[3];
-        let p4 = valid_profiles[4];
-        if count == 3 {
-            return of_three([p0, p1, p2]);
-        }
-        if count == 4 {
-            return of_four([p0, p1, p2, p3]);
-        }
-        if count == 5 {
-            return of_five([p0, p1, p2, p3, p4]);
-        }
-        if count == 0 {
-            return Answer::refused(4);
-        }
-        Answer::refused(7)
     }
 }

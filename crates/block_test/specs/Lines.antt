@@ -1,16 +1,15 @@
 -- The line that answers a record: what selection answers, and what `is_blocked` says of four times. Definitions only.
-use Rattle.std.specs.Prelude.{ℕ, cond, List, ◌++◌, eqb, Float}
+use Rattle.std.specs.Prelude.{ℕ, Bool, true, false, List, ◌++◌, Float, Result, Ok, Err}
 use Rattle.std.specs.List.{flat_map}
 use Rattle.profile_lines.specs.Text.{ascii}
 use Rattle.profile_lines.specs.Fields.{field, hex, double_fields}
 use Rattle.decimals.specs.Decimal.{decimal}
 use Rattle.stretch_lines.specs.Kinds.{kind_of}
-use Rattle.block.specs.Blocks.{both_ends, blocking_of}
+use Rattle.refusals.specs.declared.Refusal.{Refusal}
+use Rattle.refusals.specs.Numbers.{refusal_number}
+use Rattle.block.specs.Blocks.{both_ends, blocking_of, Answer, plan_in}
 use Rattle.block.specs.declared.Interval.{Interval}
 use Rattle.block.specs.declared.Block.{Block}
-use Rattle.block.specs.declared.Answer.{Answer}
-use Rattle.block.specs.declared.Blocking.{Blocking}
-use Rattle.block.specs.declared.Blocking.TheVariants.{Blocked, Free, NotFinite}
 use Rattle.block_test.specs.Records.{selected_of, given_of, times_of}
 
 -- ---- the answer of a selection
@@ -29,13 +28,14 @@ block_text x =
     ++ interval_fields x.b
 
 unfoldable pub answer_text : Answer → List ℕ
-answer_text x = cond (eqb x.refusal 0) (block_text x.block) (ascii "refused" ++ field (decimal x.refusal))
+answer_text (Ok b) = block_text b
+answer_text (Err refusal) = ascii "refused" ++ field (decimal (refusal_number refusal))
 
--- ---- the answers of `is_blocked`
-abbrev pub blocking_name : Blocking → List ℕ
-blocking_name Blocked = ascii "blocked"
-blocking_name Free = ascii "free"
-blocking_name NotFinite = ascii "refused 6"
+-- ---- the answers of `is_blocked`, whose only refusal is 6
+abbrev pub blocking_name : Result Bool Refusal → List ℕ
+blocking_name (Ok true) = ascii "blocked"
+blocking_name (Ok false) = ascii "free"
+blocking_name (Err refusal) = ascii "refused 6"
 
 -- for each of some times
 abbrev pub blocking_fields : Block → List Float → List ℕ
@@ -45,6 +45,6 @@ blocking_fields x times = flat_map (λ (t : Float). field (blocking_name (blocki
 unfoldable pub line_of : List ℕ → List ℕ
 line_of b =
     answer_text (selected_of b)
-    ++ blocking_fields (selected_of b).block (times_of b)
+    ++ blocking_fields (plan_in (selected_of b)) (times_of b)
     ++ blocking_fields (given_of b) (times_of b)
     ++ ascii "\n"

@@ -7,9 +7,10 @@ ghost use Rattle.profile_lines.specs.Fields.{field};
 ghost use Rattle.block_test.specs.Lines.{interval_fields, block_text, answer_text, blocking_name, blocking_fields};
 
 use arrayvec::ArrayVec;
-use block::{Answer, Block, Blocking, Interval};
+use block::{Block, Interval};
 use decimals::put_number;
 use profile_lines::{hex, put, put_field, put_name};
+use refusals::Refusal;
 use stretch_lines::{Kind, put_both_ends};
 
 // A stretch and the mark of the profile beside it.
@@ -36,26 +37,28 @@ fn put_block(line: &mut ArrayVec<u8, 235>, x: Block)
 }
 
 #[tactic(auto, unfolding(crate::specs::Lines::answer_text))]
-pub fn put_answer(line: &mut ArrayVec<u8, 235>, x: Answer)
+pub fn put_answer(line: &mut ArrayVec<u8, 235>, x: Result<Block, Refusal>)
     requires { array_vec_len line.old + 154 ≤ 235 }
     ensures { Appends line.old line.new (answer_text x) 154 }
 {
-    if x.refusal == 0 {
-        put_block(line, x.block);
-    } else {
-        put(line, b"refused");
-        put_number(line, x.refusal);
+    match x {
+        Ok(block) => put_block(line, block),
+        Err(refusal) => {
+            put(line, b"refused");
+            put_number(line, u64::from(refusal));
+        }
     }
 }
 
-fn put_blocking(line: &mut ArrayVec<u8, 235>, x: Blocking)
+// Refusal 6 is the only one.
+fn put_blocking(line: &mut ArrayVec<u8, 235>, x: Result<bool, Refusal>)
     requires { array_vec_len line.old + 10 ≤ 235 }
     ensures { Appends line.old line.new (field (blocking_name x)) 10 }
 {
     match x {
-        Blocking::Blocked => put(line, b" blocked"),
-        Blocking::Free => put(line, b" free"),
-        Blocking::NotFinite => put(line, b" refused 6"),
+        Ok(true) => put(line, b" blocked"),
+        Ok(false) => put(line, b" free"),
+        Err(_) => put(line, b" refused 6"),
     }
 }
 

@@ -13,6 +13,7 @@ mod lines; // lines.rt: the line that answers a record
 
 use answering::{Answers, answer_records, read_array};
 use arrayvec::ArrayVec;
+use block::Block;
 use lines::{put_answer, put_blockings};
 use profile_lines::put;
 use records::{given_of, selected_of, times_of};
@@ -31,10 +32,9 @@ impl Answers<235> for Blocks {
         read_array(reader)
     }
 
-    #[tactic(auto, unfolding(crate::specs::Lines::line_of))]
     fn line(of: [u8; 225]) -> ArrayVec<u8, 235> {
         let answer = selected_of(&of);
-        let block = answer.block;
+        let block = answer.unwrap_or(Block::empty());
         let times = times_of(&of);
         let mut line = ArrayVec::new();
         put_answer(&mut line, answer);

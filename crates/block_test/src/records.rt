@@ -4,9 +4,10 @@ ghost use Rattle.std.specs.Prelude.{◌≡◌, ◌+◌, ◌≤◌};
 ghost use Rattle.block_test.specs.Records.{direction_of, stretch_of, profile_at, profiles_of, selected_of, interval_at};
 ghost use Rattle.block_test.specs.Records.{given_of, times_of};
 
-use block::{Answer, Block, Interval, Stretch};
+use block::{Block, Interval, Stretch};
 use encoding::{double_at, doubles_at};
 use profile::{Direction, Profile};
+use refusals::Refusal;
 
 #[tactic(auto, unfolding(crate::specs::Records::direction_of))]
 fn direction_of(n: u8) -> Direction
@@ -61,7 +62,7 @@ fn profiles_of(bytes: &[u8; 225]) -> [Profile; 6]
 
 // What selection answers.
 #[tactic(auto, unfolding(crate::specs::Records::selected_of))]
-pub fn selected_of(bytes: &[u8; 225]) -> Answer
+pub fn selected_of(bytes: &[u8; 225]) -> Result<Block, Refusal>
     ensures { result ≡ selected_of bytes.now }
 {
     Block::calculate_block(profiles_of(bytes), usize::from(bytes[0]))

@@ -10,6 +10,7 @@ ghost use Rattle.buffer_test.specs.Records.{buffer_most};
 use crate::records::BUFFER_MOST;
 use arrayvec::ArrayVec;
 use decimals::{DECIMAL_WIDTH, put_decimal, put_number};
+use plan_buffer::{asked_number, is_blocked, plan, plan_number};
 use profile_lines::{DOUBLE_WIDTH, put, put_doubles};
 
 // Two numbers, a buffer's doubles, the space in front of the second number and a line feed.
@@ -46,11 +47,11 @@ pub fn answer_of(mv: &[f64], buffer: &mut [f64], t: f64) -> ArrayVec<u8, LINE_LE
     requires { length buffer.old ≤ buffer_most }
     ensures { result.items ≡ answer_of mv.now buffer.old t }
 {
-    let status = plan_buffer::plan(mv, buffer);
+    let status = plan_number(plan(mv, buffer));
     let mut line = ArrayVec::new();
     put_decimal(&mut line, status);
     put_buffer(&mut line, status, buffer);
-    put_number(&mut line, plan_buffer::is_blocked(buffer, t));
+    put_number(&mut line, asked_number(is_blocked(buffer, t)));
     put(&mut line, b"\n");
     line
 }

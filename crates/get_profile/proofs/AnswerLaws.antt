@@ -4,6 +4,7 @@ use Prim.Native.Nat.{ℕ, zero, ◌≤◌}
 use mathlib.Core.Path.{◌≡◌, refl, sym, ap, ◌∙◌, subst}
 use mathlib.Core.Bool.{Bool, true, false, cond, ◌&&◌, ◌||◌, true≢false}
 use mathlib.Core.List.{List}
+use Rattle.std.proofs.Common.{is_none, Ok, Err}
 use mathlib.Core.Logic.{◌⊎◌, inl, inr}
 use native.Mathlib.Omega.{arith}
 use lib.Dec.{eqb, ltb}
@@ -30,8 +31,9 @@ use Rattle.candidates.proofs.BoundaryLaws.{fresh_sound}
 use Rattle.position_third_step1.specs.CheckTree.{TryWith}
 use Rattle.position_third_step1.specs.TimeAllSingleStep.{time_all_single_step}
 use Rattle.position_third_step1.proofs.FamilyLaws.{found_sound, single_step_accepted}
-use Rattle.block.specs.Blocks.{duration, no_interval, interval_from, block_of, planned, refused}
-use Rattle.block.specs.declared.Answer.{Answer}
+use Rattle.block.specs.Blocks.{duration, no_interval, interval_from, block_of, Answer}
+use Rattle.refusals.specs.declared.Refusal.TheVariants.{NoProfile}
+use Rattle.refusals.specs.Numbers.{number_of}
 use Rattle.block.specs.Selection.{removal, selected}
 use Rattle.block.specs.Plans.{Each, EachAfter}
 use Rattle.block.proofs.MemberLaws.{alone_each, from_each, selected_each, selected_duration, refused_empty}
@@ -97,9 +99,9 @@ module _ (input : Profile) (m : Limits) where
 
   -- ---- selection
   selected_number : (s : ℕ → Profile) (n : ℕ) → n ≤ 5
-      → ((selected s n).refusal ≡ 0) ⊎ (((selected s n).refusal ≡ 4) ⊎ ((selected s n).refusal ≡ 5))
+      → (number_of (selected s n) ≡ 0) ⊎ ((number_of (selected s n) ≡ 4) ⊎ (number_of (selected s n) ≡ 5))
   selected_number s n h =
-      rw (selected_refusal s n) (go (eqb n 0) (ltb 5 n) (eqb n 4 && eqb (removal s) 0) (le-ltb 5 n h))
+      rw (selected_refusal s n) (go (eqb n 0) (ltb 5 n) (eqb n 4 && is_none (removal s)) (le-ltb 5 n h))
     where
       go : (a b c : Bool) → b ≡ false
           → (cond a 4 (cond b 7 (cond c 5 (zero))) ≡ 0)
@@ -151,27 +153,25 @@ module _ (input : Profile) (m : Limits) where
     where
       go : (ok : Bool) → (ok ≡ true → AcceptedFor input m d.profile)
           → Told
-          (cond ok (planned (block_of d.profile (after_passing start d.profile) no_interval)) (refused 4))
-      go true h =
-          unfold planned in (
-            record {
-              number = inl refl;
-              each = λ e. passing_each start d.profile (h refl);
-              lasts = λ e. unfold block_of in refl;
-              empty = λ e. absurd (e refl);
-            },
-            λ e. passing_after start d.profile,
-          )
-      go false h =
-          unfold refused in (
-            record {
-              number = inr (inl refl);
-              each = λ e. absurd (not_zero e);
-              lasts = λ e. absurd (not_zero e);
-              empty = λ e. refl;
-            },
-            λ e. absurd (not_zero e),
-          )
+          (cond ok (Ok (block_of d.profile (after_passing start d.profile) no_interval)) (Err NoProfile))
+      go true h = (
+        record {
+          number = inl refl;
+          each = λ e. passing_each start d.profile (h refl);
+          lasts = λ e. unfold block_of in refl;
+          empty = λ e. absurd (e refl);
+        },
+        λ e. passing_after start d.profile,
+      )
+      go false h = (
+        record {
+          number = inr (inl refl);
+          each = λ e. absurd (not_zero e);
+          lasts = λ e. absurd (not_zero e);
+          empty = λ e. refl;
+        },
+        λ e. absurd (not_zero e),
+      )
         where
           not_zero : ◌≡◌ {A = ℕ} 4 0 → ⊥
           not_zero e = omega arith

@@ -24,7 +24,7 @@ use Rattle.position_third_step1.specs.TimeAcc0Acc1.{acc0_acc1_tries}
 use Rattle.position_third_step1.specs.TimeAllNoneAcc0Acc1.{none_acc0_acc1_tries}
 use Rattle.position_third_step1.specs.TimeAllSingleStep.{acceptance, refusal, single_step_tries}
 use Rattle.position_third_step1.proofs.FamilyLaws.{single_step_stops}
-use Rattle.block.specs.declared.Answer.{Answer}
+use Rattle.block.specs.Blocks.{Answer}
 use Rattle.get_profile.specs.Calls.{itself_order, resting_order, moving_order, two_step_order, call_tries}
 use Rattle.get_profile.specs.GetProfile.{resting, moving, two_step, first_search, try_families}
 use Rattle.get_profile.specs.GetProfile.{get_profile_by, get_profile, first_tries, all_tries}

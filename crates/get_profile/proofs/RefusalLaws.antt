@@ -2,6 +2,7 @@
 use Prim.Native.Nat.{ℕ, zero}
 use mathlib.Core.Path.{◌≡◌, refl, sym, ◌∙◌, subst}
 use mathlib.Core.Bool.{Bool, true, false, cond, ◌&&◌, true≢false, false≢true}
+use Rattle.std.proofs.Common.{Option, Some, None, is_none, Ok, Err}
 use mathlib.Core.Logic.Iff
 use mathlib.Core.Logic.{◌↔◌}
 use native.Mathlib.Omega.{arith}
@@ -23,9 +24,11 @@ use Rattle.candidates.specs.declared.Try.{Try}
 use Rattle.candidates.specs.List.{slot, fresh_list}
 use Rattle.position_third_step1.specs.TimeAllSingleStep.{time_all_single_step}
 use Rattle.position_third_step1.proofs.FamilyLaws.{single_step_none}
-use Rattle.block.specs.Blocks.{planned, refused}
 use Rattle.block.specs.Selection.{removal, selected}
-use Rattle.block.specs.declared.Answer.{Answer}
+use Rattle.block.specs.Blocks.{Answer}
+use Rattle.block.specs.declared.Block.{Block}
+use Rattle.refusals.specs.declared.Refusal.TheVariants.{NoProfile}
+use Rattle.refusals.specs.Numbers.{number_of}
 use Rattle.block.proofs.RefusalLaws.{selected_refusal}
 use Rattle.get_profile.specs.Calls.{itself_order, resting_order, moving_order, two_step_order}
 use Rattle.get_profile.specs.GetProfile.{resting, moving, two_step, first_search, try_families}
@@ -57,40 +60,44 @@ both true true e = (refl, refl)
 both true false e = absurd (false≢true e)
 both false b e = absurd (false≢true e)
 
+none_goes : (k : Option ℕ) → is_none k ≡ true → k ≡ None
+none_goes None e = refl
+none_goes (Some index) e = absurd (false≢true e)
+
 module _ (s : ℕ → Profile) (n : ℕ) where
   -- 4 for count 0, and 5 for count 4 where no removal rule applies
-  selected_4 : ((selected s n).refusal ≡ 4) ↔ (n ≡ 0)
+  selected_4 : (number_of (selected s n) ≡ 4) ↔ (n ≡ 0)
   selected_4 =
-      let k = four_by (eqb n 0) (ltb 5 n) (eqb n 4 && eqb (removal s) 0) in
+      let k = four_by (eqb n 0) (ltb 5 n) (eqb n 4 && is_none (removal s)) in
       (λ h. eqb-true n 0 (k.0 (sym (selected_refusal s n) ∙ h)), λ e. selected_refusal s n ∙ k.1 (eq-eqb n 0 e))
 
-  selected_5 : ((selected s n).refusal ≡ 5) ↔ ((n ≡ 4) × (removal s ≡ 0))
+  selected_5 : (number_of (selected s n) ≡ 5) ↔ ((n ≡ 4) × (removal s ≡ None))
   selected_5 =
-      let k = five_by (eqb n 0) (ltb 5 n) (eqb n 4 && eqb (removal s) 0) in (
-        λ h. let w = both (eqb n 4) (eqb (removal s) 0) (k.0 (sym (selected_refusal s n) ∙ h)).2 in
-            (eqb-true n 4 w.0, eqb-true (removal s) 0 w.1),
+      let k = five_by (eqb n 0) (ltb 5 n) (eqb n 4 && is_none (removal s)) in (
+        λ h. let w = both (eqb n 4) (is_none (removal s)) (k.0 (sym (selected_refusal s n) ∙ h)).2 in
+            (eqb-true n 4 w.0, none_goes (removal s) w.1),
         λ z. selected_refusal s n ∙ k.1 (
           ne_eqb n 0 (λ e. omega (arith, z.0)),
           le-ltb 5 n (omega (arith, z.0)),
-          rw (eq-eqb n 4 z.0, eq-eqb (removal s) 0 z.1) refl,
+          rw (eq-eqb n 4 z.0, z.1) refl,
         ),
       )
 
-single_step_4 : (start : Start) (d : Checked) → ((single_step_answer start d).refusal ≡ 4) ↔ (d.ok ≡ false)
+single_step_4 : (start : Start) (d : Checked) → (number_of (single_step_answer start d) ≡ 4) ↔ (d.ok ≡ false)
 unfolding single_step_answer
 single_step_4 start d = go d.ok _
   where
-    go : (ok : Bool) (b : _) → ((cond ok (planned b) (refused 4)).refusal ≡ 4) ↔ (ok ≡ false)
-    go true b = unfold planned in (λ e. absurd (let z : ⊥ = omega arith in z), λ e. absurd (true≢false e))
-    go false b = unfold refused in (λ e. refl, λ e. refl)
+    go : (ok : Bool) (b : Block) → (number_of (cond ok (Ok b) (Err NoProfile)) ≡ 4) ↔ (ok ≡ false)
+    go true b = (λ e. absurd (let z : ⊥ = omega arith in z), λ e. absurd (true≢false e))
+    go false b = (λ e. refl, λ e. refl)
 
-single_step_not_5 : (start : Start) (d : Checked) → (single_step_answer start d).refusal ≡ 5 → ⊥
+single_step_not_5 : (start : Start) (d : Checked) → number_of (single_step_answer start d) ≡ 5 → ⊥
 unfolding single_step_answer
 single_step_not_5 start d = go d.ok _
   where
-    go : (ok : Bool) (b : _) → (cond ok (planned b) (refused 4)).refusal ≡ 5 → ⊥
-    go true b = unfold planned in (λ e. omega arith)
-    go false b = unfold refused in (λ e. omega arith)
+    go : (ok : Bool) (b : Block) → number_of (cond ok (Ok b) (Err NoProfile)) ≡ 5 → ⊥
+    go true b = (λ e. omega arith)
+    go false b = (λ e. omega arith)
 
 -- ---- the families
 module _ (start : Start) (target : Target) (k : Constants) where
@@ -131,12 +138,12 @@ module _ (input : Profile) (m : Limits) where
       (λ h. subst (AllNo passes) (sym (tree_is input m e)) h, λ h. subst (AllNo passes) (tree_is input m e) h)
 
   -- 4 exactly where no try that is asked is accepted
-  pub refused_4 : ((get_profile_answer input m).refusal ≡ 4) ↔ NoneAccepted input m
+  pub refused_4 : (number_of (get_profile_answer input m) ≡ 4) ↔ NoneAccepted input m
   unfolding get_profile_by
   refused_4 = go (has_zero_limit m) refl
     where
       go : (zero-limit : Bool) → has_zero_limit m ≡ zero-limit
-          → ((get_profile_answer input m).refusal ≡ 4) ↔ NoneAccepted input m
+          → (number_of (get_profile_answer input m) ≡ 4) ↔ NoneAccepted input m
       go true e =
           rw (single_step_is input m e)
           (Iff.trans (single_step_4 (start_of input) (run passes path))
@@ -150,11 +157,11 @@ module _ (input : Profile) (m : Limits) where
           (Iff.trans (Iff.symm (end_all_no _ _)) (none_accepted_by e))))
 
   -- 5 exactly where the families are tried, four profiles count and no removal rule applies
-  pub refused_5 : ((get_profile_answer input m).refusal ≡ 5) ↔ FourStay input m
+  pub refused_5 : (number_of (get_profile_answer input m) ≡ 5) ↔ FourStay input m
   refused_5 = go (has_zero_limit m) refl
     where
       go : (zero-limit : Bool) → has_zero_limit m ≡ zero-limit
-          → ((get_profile_answer input m).refusal ≡ 5) ↔ FourStay input m
+          → (number_of (get_profile_answer input m) ≡ 5) ↔ FourStay input m
       go true e =
           rw (single_step_is input m e) (
             λ h. absurd (single_step_not_5 (start_of input) (run passes path) h),
@@ -168,5 +175,5 @@ module _ (input : Profile) (m : Limits) where
           )
 
   -- which is where each of all tries is refused
-  pub refused_4_each : ((get_profile_answer input m).refusal ≡ 4) ↔ EachRefused input m
+  pub refused_4_each : (number_of (get_profile_answer input m) ≡ 4) ↔ EachRefused input m
   refused_4_each = rw (← asked_in_order input m) (Iff.trans refused_4 (all_no_questions passes (get_profile input m)))

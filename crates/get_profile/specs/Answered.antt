@@ -4,9 +4,9 @@ use Rattle.profile.specs.Boundary.{start_of, target_of}
 use Rattle.profile.specs.declared.Profile.{Profile}
 use Rattle.profile.specs.declared.Limits.{Limits}
 use Rattle.candidates.specs.Counted.{AcceptedOf}
-use Rattle.block.specs.Blocks.{duration, empty_block}
+use Rattle.refusals.specs.Numbers.{number_of}
+use Rattle.block.specs.Blocks.{duration, empty_block, Answer, plan_in}
 use Rattle.block.specs.Plans.{Each, EachAfter}
-use Rattle.block.specs.declared.Answer.{Answer}
 use Rattle.get_profile.specs.GetProfile.{TryBetween}
 
 module _ (input : Profile) (m : Limits) where
@@ -17,11 +17,11 @@ module _ (input : Profile) (m : Limits) where
 
   -- 0, 4 or 5; what a plan consists of; the empty plan elsewhere
   pub record Answered (r : Answer) : Type 0 where
-    pub number : (r.refusal ≡ 0) ⊎ ((r.refusal ≡ 4) ⊎ (r.refusal ≡ 5))
-    pub each : r.refusal ≡ 0 → Each AcceptedFor r.block
-    pub lasts : r.refusal ≡ 0 → r.block.t_min ≡ duration r.block.p_min
-    pub empty : (r.refusal ≡ 0 → ⊥) → r.block ≡ empty_block
+    pub number : (number_of r ≡ 0) ⊎ ((number_of r ≡ 4) ⊎ (number_of r ≡ 5))
+    pub each : number_of r ≡ 0 → Each AcceptedFor (plan_in r)
+    pub lasts : number_of r ≡ 0 → (plan_in r).t_min ≡ duration (plan_in r).p_min
+    pub empty : (number_of r ≡ 0 → ⊥) → plan_in r ≡ empty_block
 
   -- where the stretches of a plan lie
   abbrev pub AnsweredAfter : Answer → Type 0
-  AnsweredAfter r = r.refusal ≡ 0 → EachAfter AcceptedFor r.block
+  AnsweredAfter r = number_of r ≡ 0 → EachAfter AcceptedFor (plan_in r)

@@ -1,6 +1,6 @@
 -- `get_profile` on a fresh planner and a fresh block: which families are tried for which move, in which order and up to
 -- where. Definitions only.
-use Rattle.std.specs.Prelude.{◌≡◌, Bool, true, false, cond, ◌||◌, List, [], ◌∷◌, ◌++◌, ◌⊎◌, Float}
+use Rattle.std.specs.Prelude.{◌≡◌, Bool, true, false, cond, ◌||◌, List, [], ◌∷◌, ◌++◌, ◌⊎◌, None, Ok, Err, Float}
 use Rattle.doubles.specs.Constants.{0ᶠ}
 use Rattle.profile.specs.Boundary.{start_of, target_of, empty_profile, boundary_from}
 use Rattle.profile.specs.Limits.{swapped_limits}
@@ -22,10 +22,10 @@ use Rattle.candidates.specs.List.{slot, fresh_list}
 use Rattle.candidates.specs.declared.Candidates.{Candidates}
 use Rattle.position_third_step1.specs.CheckTree.{found}
 use Rattle.position_third_step1.specs.TimeAllSingleStep.{single_step_tries, time_all_single_step}
-use Rattle.block.specs.Blocks.{duration, no_interval, interval_from, block_of, planned, refused}
+use Rattle.block.specs.Blocks.{duration, no_interval, interval_from, block_of, Answer}
 use Rattle.block.specs.Selection.{removal, selected}
 use Rattle.block.specs.declared.Interval.{Interval}
-use Rattle.block.specs.declared.Answer.{Answer}
+use Rattle.refusals.specs.declared.Refusal.TheVariants.{NoProfile}
 use Rattle.get_profile.specs.Families.{Search, each_of, first_of}
 use Rattle.get_profile.specs.Calls.{itself_order, resting_order, moving_order, two_step_order, calls_of, call_tries}
 
@@ -60,12 +60,12 @@ after_passing start q = cond (starts_moving start || starts_accelerated start) (
 
 unfoldable pub single_step_answer : Start → Checked → Answer
 single_step_answer start d =
-    cond d.ok (planned (block_of d.profile (after_passing start d.profile) no_interval)) (refused 4)
+    cond d.ok (Ok (block_of d.profile (after_passing start d.profile) no_interval)) (Err NoProfile)
 
 -- the same of the list that the path's search found: its first profile
 unfoldable pub single_step_from : Start → Candidates → Answer
 single_step_from start c =
-    cond (is_found c) (planned (block_of (slot c 0) (after_passing start (slot c 0)) no_interval)) (refused 4)
+    cond (is_found c) (Ok (block_of (slot c 0) (after_passing start (slot c 0)) no_interval)) (Err NoProfile)
 
 -- of all others: selection among the profiles that were accepted
 abbrev pub selected_from : Candidates → Answer
@@ -145,4 +145,4 @@ found_for input m =
 pub record FourStay (input : Profile) (m : Limits) : Type 0 where
   pub by_families : has_zero_limit m ≡ false
   pub four : (found_for input m).current_index ≡ 4
-  pub no_rule : removal (slot (found_for input m)) ≡ 0
+  pub no_rule : removal (slot (found_for input m)) ≡ None

@@ -4,14 +4,16 @@
 ghost use Rattle.std.specs.Prelude.{◌≡◌};
 ghost use Rattle.get_profile.specs.GetProfile.{after_passing, single_step_from, get_profile_answer};
 
-use block::{Answer, Block, Interval};
+use block::{Block, Interval};
 use candidates::Candidates;
 use phase_times::constants::Constants;
 use phase_times::time_all_single_step::{starts_accelerated, starts_moving};
 use profile::{Limits, Profile, Start};
+use refusals::Refusal;
 use search::{has_zero_limit, kind_of, search, stage_count};
 
 // The stretch after a single-step plan.
+#[tactic(auto, unfolding(crate::specs::GetProfile::after_passing))]
 fn after_passing(start: Start, q: Profile) -> Interval
     ensures { result ≡ after_passing start q }
 {
@@ -22,18 +24,19 @@ fn after_passing(start: Start, q: Profile) -> Interval
 }
 
 // The answer of the single-step path, of the list that its search found.
-fn single_step_answer(start: Start, c: Candidates) -> Answer
+fn single_step_answer(start: Start, c: Candidates) -> Result<Block, Refusal>
     ensures { result ≡ single_step_from start c }
 {
     if c.current_index > 0 {
         let q = c.valid_profiles[0];
-        return Answer::planned(q, after_passing(start, q), Interval::none());
+        return Ok(Block::new(q, after_passing(start, q), Interval::none()));
     }
-    Answer::refused(4)
+    Err(Refusal::NoProfile)
 }
 
-// The plan of a move with the start, the target and the durations of `input`, or a refusal with 4 or 5.
-pub fn get_profile(input: Profile, m: Limits) -> Answer
+// The plan of a move with the start, the target and the durations of `input`, or a refusal: no profile was accepted, or
+// four were and no removal rule applies.
+pub fn get_profile(input: Profile, m: Limits) -> Result<Block, Refusal>
     ensures { result ≡ get_profile_answer input m }
 {
     let start = input.start();

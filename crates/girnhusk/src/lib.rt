@@ -15,7 +15,7 @@ pub extern "C" fn girnhusk_plan(mv: &[f64], buffer: &mut [f64]) -> u64
     ensures planned { Planned mv.now buffer.old result buffer.new }
     ensures joinable { HoldsJoinable result buffer.new }
 {
-    plan_buffer::plan(mv, buffer)
+    plan_buffer::plan_number(plan_buffer::plan(mv, buffer))
 }
 
 // Whether a duration is blocked by the plan that girnhusk_plan wrote into a buffer.
@@ -24,7 +24,7 @@ pub extern "C" fn girnhusk_plan(mv: &[f64], buffer: &mut [f64]) -> u64
 pub extern "C" fn girnhusk_is_blocked(buffer: &[f64], t: f64) -> u64
     ensures { Asked buffer.now t result }
 {
-    plan_buffer::is_blocked(buffer, t)
+    plan_buffer::asked_number(plan_buffer::is_blocked(buffer, t))
 }
 
 // When all axes of a move can arrive: the earliest duration that none of 1 to 8 plans blocks, and the lowest axis,

@@ -3,7 +3,7 @@ use Rattle.std.proofs.Common.{◌≡◌, ℕ, zero, suc, ◌+◌, ◌*◌, ◌<�
 use Rattle.std.proofs.Common.{List, [], ◌++◌, append_assoc, take, drop, get_or}
 use Rattle.std.proofs.Math.Seq.{drop-drop}
 use Rattle.std.specs.Simd.{first_chunks}
-use Rattle.block.specs.declared.Answer.{Answer}
+use Rattle.block.specs.Blocks.{Answer}
 use Rattle.moves.specs.Records.{record_length, record_of}
 use Rattle.moves.specs.Replies.{reply_of, goes_on_after}
 use Rattle.move_stream.specs.Batches.{record_at, lines_of, go_on}

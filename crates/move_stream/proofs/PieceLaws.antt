@@ -7,7 +7,7 @@ use native.Mathlib.Omega.{arith}
 use native.Mathlib.Numerals.{unary_clauses}
 use lib.ListN.{length, take, drop, length-drop}
 use lib.Seq.{drop-append-le, take-append-le, drop-drop}
-use Rattle.block.specs.declared.Answer.{Answer}
+use Rattle.block.specs.Blocks.{Answer}
 use Rattle.moves.specs.Records.{record_length, record_of}
 use Rattle.moves.specs.Replies.{reply_of, goes_on_after}
 use Rattle.move_stream.specs.Batches.{record_at, lines_of, go_on, InPieces}

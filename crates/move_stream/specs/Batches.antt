@@ -4,7 +4,7 @@ use Rattle.std.specs.Prelude.{take, drop, Option, Result}
 use Rattle.refusals.specs.declared.Refusal.{Refusal}
 use Rattle.planner.specs.declared.Move.{Move}
 use Rattle.arrayvec.specs.ArrayVec.{ArrayVec, array_vec_len}
-use Rattle.block.specs.declared.Answer.{Answer}
+use Rattle.block.specs.Blocks.{Answer}
 use Rattle.moves.specs.Records.{record_length, record_of}
 use Rattle.moves.specs.Replies.{reply_of, goes_on_after}
 use Rattle.move_stream.specs.declared.batches.Batch.{Batch}

@@ -8,7 +8,7 @@ use native.Mathlib.Omega.{arith}
 use borrow.Author.Tests.{ltb-false}
 use lib.Dec.{eqb, ltb}
 use lib.ListN.{length}
-use Rattle.block.specs.Blocks.{refused}
+use Rattle.refusals.specs.Numbers.{number_of as answer_number}
 use Rattle.planner.specs.Answers.{finite_move, wrong_sign, wrong_duration, answer_of}
 use Rattle.planner.specs.declared.Move.{Move}
 use Rattle.planner.proofs.RefusalLaws.{refused_1, refused_2, refused_3, admitted}
@@ -27,29 +27,28 @@ unfolding is_malformed
 is_long b h = ltb-false (length b) record_length (first_false (ltb (length b) record_length) _ _ h)
 
 -- ---- 8 is a record's number: no answer to a move has it
-module _ (x : Move) (e : (answer_of x).refusal ≡ 8) where
+module _ (x : Move) (e : answer_number (answer_of x) ≡ 8) where
   by_duration : (d : Bool) → wrong_duration x ≡ d → finite_move x ≡ true → wrong_sign x.limits ≡ false → ⊥
-  by_duration true hd hf hs = let z : (answer_of x).refusal ≡ 3 = (refused_3 x).1 (hf, hs, hd) in omega arith
+  by_duration true hd hf hs = let z : answer_number (answer_of x) ≡ 3 = (refused_3 x).1 (hf, hs, hd) in omega arith
   by_duration false hd hf hs =
       elim ((admitted x).1 (record { finite = hf; signs = hs; durations = hd }))
       [ inl z ↦ omega arith | inr u ↦ elim u [ inl z ↦ omega arith | inr z ↦ omega arith ] ]
 
   by_sign : (s : Bool) → wrong_sign x.limits ≡ s → finite_move x ≡ true → ⊥
-  by_sign true hs hf = let z : (answer_of x).refusal ≡ 2 = (refused_2 x).1 (hf, hs) in omega arith
+  by_sign true hs hf = let z : answer_number (answer_of x) ≡ 2 = (refused_2 x).1 (hf, hs) in omega arith
   by_sign false hs hf = by_duration (wrong_duration x) refl hf hs
 
   by_finite : (f : Bool) → finite_move x ≡ f → ⊥
-  by_finite false hf = let z : (answer_of x).refusal ≡ 1 = (refused_1 x).1 hf in omega arith
+  by_finite false hf = let z : answer_number (answer_of x) ≡ 1 = (refused_1 x).1 hf in omega arith
   by_finite true hf = by_sign (wrong_sign x.limits) refl hf
 
 by_case : (e m : Bool) (x : Move) → (number_of (answer_to (cond e None (Some (cond m (Err WrongRecord) (Ok x))))) ≡ Some 8) ↔
     ((e ≡ false) × (m ≡ true))
-unfolding refused
 by_case true m x =
     (λ h. absurd (let z : ◌≡◌ {A = ℕ} 0 1 = cc in let none : ⊥ = omega arith in none), λ h. absurd (true≢false h.0))
 by_case false true x = (λ h. (refl, refl), λ h. refl)
 by_case false false x = (
-  λ h. absurd (let z : (answer_of x).refusal ≡ 8 = cc in by_finite x z (finite_move x) refl),
+  λ h. absurd (let z : answer_number (answer_of x) ≡ 8 = cc in by_finite x z (finite_move x) refl),
   λ h. absurd (false≢true h.1),
 )
 

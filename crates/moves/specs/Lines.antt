@@ -1,13 +1,13 @@
 -- The lines of text for an answer: fields one space apart, a line feed at the end. Definitions only.
-use Rattle.std.specs.Prelude.{ℕ, ◌+◌, cond, List, ◌++◌, eqb}
+use Rattle.std.specs.Prelude.{ℕ, ◌+◌, List, ◌++◌, Ok, Err}
 use Rattle.profile_lines.specs.Text.{ascii}
 use Rattle.profile_lines.specs.Fields.{direction_name, limits_name, field, hex, double_fields, profile_fields}
 use Rattle.profile_lines.specs.Fields.{double_width, direction_width, limits_width, profile_width}
-use Rattle.block.specs.Blocks.{count_of, both_ends, ends_of}
+use Rattle.refusals.specs.Numbers.{refusal_number}
+use Rattle.block.specs.Blocks.{count_of, both_ends, ends_of, Answer}
 use Rattle.block.specs.declared.Stretch.{Stretch}
 use Rattle.block.specs.declared.Interval.{Interval}
 use Rattle.block.specs.declared.Block.{Block}
-use Rattle.block.specs.declared.Answer.{Answer}
 use Rattle.decimals.specs.Decimal.{decimal, decimal_width, number_width}
 use Rattle.stretch_lines.specs.Kinds.{kind_of, kind_width, both_ends_width}
 
@@ -44,7 +44,8 @@ full_fields x =
 
 -- ---- the line of record number n, in the form that the fields of a plan have
 unfoldable pub answer_with : (Block → List ℕ) → Answer → List ℕ
-answer_with plan x = cond (eqb x.refusal 0) (plan x.block) (refusal_fields x.refusal)
+answer_with plan (Ok b) = plan b
+answer_with plan (Err refusal) = refusal_fields (refusal_number refusal)
 
 unfoldable pub line_with : (Block → List ℕ) → ℕ → Answer → List ℕ
 line_with plan n x = decimal n ++ answer_with plan x ++ ascii "\n"

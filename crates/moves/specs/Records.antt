@@ -3,11 +3,10 @@
 use Rattle.std.specs.Prelude.{ℕ, ◌+◌, ◌*◌, ◌≡◌, Bool, true, false, not, cond, ◌||◌, List, ◌↔◌, eqb, ltb, length}
 use Rattle.std.specs.Prelude.{get_or, Option, None, Some, Result, Ok, Err}
 use Rattle.encoding.specs.Encoding.{doubles_at}
-use Rattle.refusals.specs.Numbers.{refusal_number}
+use Rattle.refusals.specs.Numbers.{number_of as answer_number}
 use Rattle.refusals.specs.declared.Refusal.{Refusal}
 use Rattle.refusals.specs.declared.Refusal.TheVariants.{WrongRecord}
-use Rattle.block.specs.Blocks.{refused}
-use Rattle.block.specs.declared.Answer.{Answer}
+use Rattle.block.specs.Blocks.{Answer}
 use Rattle.planner.specs.Layout.{move_length, move_of}
 use Rattle.planner.specs.Answers.{answer_of}
 use Rattle.planner.specs.declared.Move.{Move}
@@ -42,13 +41,13 @@ record_of b = cond (eqb (length b) 0) None (Some (cond (is_malformed b) (Err Wro
 -- none at the end of the input, refusal 8, or the answer to the move
 abbrev pub answer_to : Option (Result Move Refusal) → Option Answer
 answer_to None = None
-answer_to (Some (Err refusal)) = Some (refused (refusal_number refusal))
+answer_to (Some (Err refusal)) = Some (Err refusal)
 answer_to (Some (Ok x)) = Some (answer_of x)
 
 -- the number of that answer: 0 for a plan
 abbrev pub number_of : Option Answer → Option ℕ
 number_of None = None
-number_of (Some r) = Some r.refusal
+number_of (Some r) = Some (answer_number r)
 
 -- what is read of the bytes b: the definition's record, whose number is 8 if and only if there are bytes and they begin
 -- with no record

@@ -2,7 +2,7 @@
 use Rattle.std.specs.Prelude.{ℕ, Bool, true, false, List, [], Option, None, Some, Result, Ok, Err}
 use Rattle.refusals.specs.declared.Refusal.{Refusal}
 use Rattle.planner.specs.declared.Move.{Move}
-use Rattle.block.specs.declared.Answer.{Answer}
+use Rattle.block.specs.Blocks.{Answer}
 use Rattle.moves.specs.Records.{answer_to}
 
 -- the line of an answer, by one of the two forms of a line; no byte where there is none

@@ -10,9 +10,10 @@ ghost use Rattle.moves.specs.Lines.{line_length, full_line_length};
 
 use crate::fields::{put_full_plan, put_plan, put_refusal};
 use arrayvec::ArrayVec;
-use block::{Answer, Block};
+use block::Block;
 use decimals::{DECIMAL_WIDTH, put_decimal};
 use profile_lines::{DIRECTION_WIDTH, DOUBLE_WIDTH, LIMITS_WIDTH, PROFILE_WIDTH, put};
+use refusals::Refusal;
 use stretch_lines::{BOTH_ENDS_WIDTH, KIND_WIDTH};
 
 const OK_WIDTH: usize = 3;
@@ -90,19 +91,18 @@ impl<const N: usize> Form<N> for Full {
     ghost lines_fit = { refl };
 }
 
-fn put_answer<F: Form<N>, const N: usize>(line: &mut ArrayVec<u8, N>, x: Answer)
+fn put_answer<F: Form<N>, const N: usize>(line: &mut ArrayVec<u8, N>, x: Result<Block, Refusal>)
     requires { array_vec_len line.old + (F.LENGTH - frame_width) ≤ N }
     ensures { Appends line.old line.new (answer_with F.plan x) (F.LENGTH - frame_width) }
 {
-    if x.refusal == 0 {
-        F::put_plan(line, x.block);
-    } else {
-        put_refusal(line, x.refusal);
+    match x {
+        Ok(block) => F::put_plan(line, block),
+        Err(refusal) => put_refusal(line, u64::from(refusal)),
     }
 }
 
 // Appends the line for the answer to record number n.
-pub fn put_line<F: Form<N>, const N: usize>(line: &mut ArrayVec<u8, N>, n: u64, x: Answer)
+pub fn put_line<F: Form<N>, const N: usize>(line: &mut ArrayVec<u8, N>, n: u64, x: Result<Block, Refusal>)
     requires { array_vec_len line.old + F.LENGTH ≤ N }
     ensures { Appends line.old line.new (line_with F.plan n x) F.LENGTH }
 {
@@ -112,7 +112,7 @@ pub fn put_line<F: Form<N>, const N: usize>(line: &mut ArrayVec<u8, N>, n: u64, 
 }
 
 // The line for the answer to record number n.
-pub fn line<F: Form<FULL_LINE_LENGTH>>(n: u64, x: Answer) -> ArrayVec<u8, FULL_LINE_LENGTH>
+pub fn line<F: Form<FULL_LINE_LENGTH>>(n: u64, x: Result<Block, Refusal>) -> ArrayVec<u8, FULL_LINE_LENGTH>
     ensures items { result.items ≡ line_with F.plan n x }
     ensures within { array_vec_len result ≤ F.LENGTH }
 {

@@ -35,7 +35,7 @@ pub fn read_record(b: &[u8]) -> Option<Result<Move, Refusal>>
     if is_malformed(b) {
         return Some(Err(Refusal::WrongRecord));
     }
-    Some(Ok(Move::of(doubles_at(b, 3))))
+    Some(Ok(Move::from(doubles_at(b, 3))))
 }
 
 // The lengths of the code are those of the definitions.

@@ -10,7 +10,6 @@ ghost use Rattle.moves.specs.Replies.{reply_of, goes_on_after};
 use crate::lines::{FULL_LINE_LENGTH, Form, put_line};
 use crate::records::read_record;
 use arrayvec::ArrayVec;
-use block::Answer;
 use planner::plan;
 
 // Appends the line that answers record number n, whose bytes are the input's next, and says whether another record may
@@ -27,7 +26,7 @@ pub fn put_reply<F: Form<N>, const N: usize>(
     match read_record(bytes) {
         None => false,
         Some(Err(refusal)) => {
-            put_line::<F, N>(line, n, Answer::refused(u64::from(refusal)));
+            put_line::<F, N>(line, n, Err(refusal));
             false
         }
         Some(Ok(x)) => {

@@ -1,16 +1,21 @@
 -- What is answered of buffers, case by case, and that a plan's buffer answers for the plan. Assumes nothing.
 use Prim.Native.Nat.{ℕ, ◌<◌, ◌≤◌}
-use mathlib.Core.Path.{◌≡◌, refl, sym, ap, ◌∙◌}
+use mathlib.Core.Path.{◌≡◌, refl, ap, ◌∙◌}
+use mathlib.Core.Bool.{Bool, true, false}
 use mathlib.Core.List.{List, ◌++◌}
 use native.Mathlib.Omega.{arith}
 use borrow.Author.Tests.{lt-ltb, le-ltb, eq-eqb, ne_eqb}
 use lib.ListN.{length, drop, length-append}
 use lib.Ieee.{Float, eq, of_bits, of_int}
+use Rattle.std.proofs.Common.{Result, Ok, Err}
+use Rattle.std.specs.Result.{IsErrAnd}
+use Rattle.refusals.specs.declared.Refusal.{Refusal}
+use Rattle.refusals.specs.Numbers.{refusal_number}
+use Rattle.refusals.proofs.NumberLaws.{refused}
 use Rattle.block.specs.Blocks.{kind_number, left_end, right_end, inside, is_blocked, blocking_of, blocking_number}
 use Rattle.block.specs.declared.Stretch.{Stretch}
 use Rattle.block.specs.declared.Stretch.TheVariants.{Nothing, Between, From}
 use Rattle.block.specs.declared.Block.{Block}
-use Rattle.block.specs.declared.Answer.{Answer}
 use Rattle.profile.specs.Layout.{elements, profile_doubles}
 use Rattle.planner.specs.Layout.{move_length, move_of}
 use Rattle.planner.specs.Answers.{answer_of}
@@ -19,7 +24,10 @@ use Rattle.planner.specs.Arrival.{axis_of_plan, Joinable}
 use Rattle.planner.specs.declared.Move.{Move}
 use Rattle.plan_buffer.specs.Layout.{numeral, profile_numbers, interval_numbers, plan_numbers, plan_length}
 use Rattle.plan_buffer.specs.Buffers.{wrong_length, plan_status, plan_written, axis_in, Planned, HoldsJoinable}
-use Rattle.plan_buffer.specs.Buffers.{inside_numbers, is_blocked_from, blocking_from, blocked_status, Asked}
+use Rattle.plan_buffer.specs.Buffers.{inside_numbers, is_blocked_from, blocking_in, blocking_from, blocked_status}
+use Rattle.plan_buffer.specs.Buffers.{asked_number, Asked}
+use Rattle.plan_buffer.specs.declared.error.BufferError.{BufferError}
+use Rattle.plan_buffer.specs.declared.error.BufferError.TheVariants.{Refused}
 use Rattle.plan_buffer.proofs.LayoutLaws.{plan_length_law}
 
 -- ---- the buffer of a plan, whatever lies beyond it, has the plan's axis
@@ -30,6 +38,12 @@ axis_in_plan b rest = refl
 -- ---- planning: nothing is written unless the status is 0
 pub never : {A : Type 0} → ◌≡◌ {A = ℕ} wrong_length 0 → A
 never z = absurd (let none : ⊥ = omega arith in none)
+
+-- a refusal that is passed up stays the same
+pub is_refused : {A : Type 0} (r : Result A BufferError) (k : Refusal) → IsErrAnd r (λ e. e ≡ Refused k)
+    → r ≡ Err (Refused k)
+is_refused (Ok _) k h = absurd h
+is_refused (Err e) k h = ap Err h
 
 module _ (mv buffer : List Float) where
   pub wrong_move : (length mv ≡ move_length → ⊥) → Planned mv buffer wrong_length buffer
@@ -46,39 +60,38 @@ module _ (mv buffer : List Float) where
         let f = lt-ltb (length buffer) plan_length h in
         record { status_is = rw (e, f); after_is = rw (e, f); promise = λ z. never z; duration = λ z. never z }
 
-    module _ (room : plan_length ≤ length buffer) (x : Move) (r : Answer) (ex : x ≡ move_of mv)
-        (er : r ≡ answer_of x) where
-      status : r.refusal ≡ plan_status mv buffer
-      unfolding plan_status
-      status = rw (eq-eqb (length mv) move_length of_move, le-ltb (length buffer) plan_length room, er, ex)
-
-      pub refused_move : (r.refusal ≡ 0 → ⊥) → Planned mv buffer r.refusal buffer
-      unfolding plan_written
-      refused_move h =
+    module _ (room : plan_length ≤ length buffer) (x : Move) (ex : x ≡ move_of mv) where
+      pub refused_move : (k : Refusal) → Err k ≡ answer_of x → Planned mv buffer (refusal_number k) buffer
+      unfolding plan_status plan_written
+      refused_move k er =
+          let e = eq-eqb (length mv) move_length of_move in
+          let f = le-ltb (length buffer) plan_length room in
+          let n = ne_eqb (refusal_number k) 0 (λ z. refused k z) in
           record {
-            status_is = status;
-            after_is = rw (← status, ne_eqb r.refusal 0 h);
-            promise = λ z. absurd (h z);
-            duration = λ z. absurd (h z);
+            status_is = rw (e, f, ← ex, ← er);
+            after_is = rw (e, f, ← ex, ← er, n);
+            promise = λ z. refused k z;
+            duration = λ z. refused k z;
           }
 
-      pub planned_move : (after : List Float) → r.refusal ≡ 0 → Promise x r → FiniteDuration r
-          → after ≡ plan_numbers r.block ++ drop plan_length buffer
+      pub planned_move : (after : List Float) (b : Block) → Ok b ≡ answer_of x → Promise x (Ok b) → FiniteDuration (Ok b)
+          → after ≡ plan_numbers b ++ drop plan_length buffer
           → Planned mv buffer 0 after
-      unfolding plan_written
-      planned_move after z promise duration e =
+      unfolding plan_status plan_written
+      planned_move after b er promise duration e =
+          let h = eq-eqb (length mv) move_length of_move in
+          let f = le-ltb (length buffer) plan_length room in
           record {
-            status_is = sym z ∙ status;
-            after_is = rw (← status, z, ← ex, ← er) e;
-            promise = λ _. rw (← ex, ← er) (promise z);
+            status_is = rw (h, f, ← ex, ← er);
+            after_is = rw (h, f, ← ex, ← er) e;
+            promise = λ _. rw (← ex, ← er) (promise refl);
             duration = λ _. rw (← ex, ← er) duration;
           }
 
 -- what the buffer of a plan holds is joinable where the plan is
-pub holds_joinable : (buffer after : List Float) (r : Answer) → r.refusal ≡ 0 → Joinable r
-    → after ≡ plan_numbers r.block ++ drop plan_length buffer → HoldsJoinable 0 after
-holds_joinable buffer after r z joinable e =
-    λ _. rw (e, axis_in_plan r.block (drop plan_length buffer)) (joinable z)
+pub holds_joinable : (buffer after : List Float) (b : Block) → Joinable (Ok b)
+    → after ≡ plan_numbers b ++ drop plan_length buffer → HoldsJoinable 0 after
+holds_joinable buffer after b joinable e = λ _. rw (e, axis_in_plan b (drop plan_length buffer)) (joinable refl)
 
 -- ---- which times are blocked
 inside_numbers_law : (s : Stretch) (t : Float)
@@ -91,7 +104,7 @@ inside_numbers_law (From left) t = refl
 -- the buffer of a plan, whatever lies beyond it, answers for the plan
 pub blocking_of_plan : (b : Block) (rest : List Float) (t : Float)
     → blocking_from (plan_numbers b ++ rest) t ≡ blocking_number (blocking_of b t)
-unfolding blocking_from is_blocked_from plan_numbers interval_numbers profile_numbers profile_doubles elements blocking_of is_blocked
+unfolding blocking_in is_blocked_from plan_numbers interval_numbers profile_numbers profile_doubles elements blocking_of is_blocked
 blocking_of_plan b rest t = rw (inside_numbers_law b.a.stretch t, inside_numbers_law b.b.stretch t)
 
 long_enough : (b : Block) (rest : List Float) → plan_length ≤ length (plan_numbers b ++ rest)
@@ -106,10 +119,22 @@ module _ (buffer : List Float) (t : Float) where
         of_plan = λ b rest e. absurd (let none : ⊥ = omega (arith, long_enough b rest, ap length e) in none);
       }
 
-  pub asked_whole : (r : ℕ) → plan_length ≤ length buffer → r ≡ blocking_from buffer t → Asked buffer t r
+  asked_whole : (r : ℕ) → plan_length ≤ length buffer → r ≡ blocking_from buffer t → Asked buffer t r
   unfolding blocked_status
   asked_whole r h e =
       record {
         status_is = rw (le-ltb (length buffer) plan_length h) e;
         of_plan = λ b rest f. e ∙ ap (λ (l : List Float). blocking_from l t) f ∙ blocking_of_plan b rest t;
       }
+
+  pub asked_answered : (q : Bool) → plan_length ≤ length buffer → Ok q ≡ blocking_in buffer t
+      → Asked buffer t (asked_number (Ok q))
+  asked_answered q h e = asked_whole _ h (same q ∙ ap blocking_number e)
+    where
+      same : (q : Bool) → asked_number (Ok q) ≡ blocking_number (Ok q)
+      same true = refl
+      same false = refl
+
+  pub asked_refused : (k : Refusal) → plan_length ≤ length buffer → Err k ≡ blocking_in buffer t
+      → Asked buffer t (asked_number (Err (Refused k)))
+  asked_refused k h e = asked_whole _ h (ap blocking_number e)

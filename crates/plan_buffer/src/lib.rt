@@ -4,52 +4,48 @@
 
 ghost use Rattle.std.specs.Prelude.{◌≡◌};
 ghost use Rattle.plan_buffer.specs.Layout.{plan_length};
-ghost use Rattle.plan_buffer.specs.Buffers.{wrong_length, Planned, HoldsJoinable, Asked};
+ghost use Rattle.plan_buffer.specs.Buffers.{wrong_length, plan_number, asked_number, Planned, HoldsJoinable, Asked};
 
+use crate::error::WRONG_LENGTH;
 use crate::layout::PLAN_LENGTH;
 use crate::read::{blocking, moved};
 use crate::write::write_plan;
 use planner::MOVE_LENGTH;
 
+mod error; // error.rt: why nothing is answered, and the numbers of answers
 mod layout; // layout.rt: where the parts of a plan stand
 mod write; // write.rt: a plan into a lent slice
 mod read; // read.rt: a move, and what is asked of a plan, from a lent slice
 
-// The archive's own number, for a buffer of a wrong length.
-const WRONG_LENGTH: u64 = 255;
+pub use error::{BufferError, asked_number, plan_number};
 
-// Plans a move. 0: planned, and the buffer begins with the plan. 1 to 5: refused. 255: `mv` isn't a move's 13 doubles,
-// or the buffer has fewer than a plan's 166.
-// Nothing is written unless 0 is returned, and nothing beyond the plan.
-pub fn plan(mv: &[f64], buffer: &mut [f64]) -> u64
-    ensures planned { Planned mv.now buffer.old result buffer.new }
-    ensures joinable { HoldsJoinable result buffer.new }
+// Plans a move: the buffer then begins with the plan. A wrong length where `mv` isn't a move's 13 doubles, or the
+// buffer has fewer than a plan's 166.
+// Nothing is written unless it is planned, and nothing beyond the plan.
+pub fn plan(mv: &[f64], buffer: &mut [f64]) -> Result<(), BufferError>
+    ensures planned { Planned mv.now buffer.old (plan_number result) buffer.new }
+    ensures joinable { HoldsJoinable (plan_number result) buffer.new }
 {
     if mv.len() != MOVE_LENGTH {
-        return WRONG_LENGTH;
+        return Err(BufferError::WrongLength);
     }
     if buffer.len() < PLAN_LENGTH {
-        return WRONG_LENGTH;
+        return Err(BufferError::WrongLength);
     }
-    let answer = planner::plan(moved(mv));
-    let refusal = answer.refusal;
-    if refusal != 0 {
-        return refusal;
-    }
-    let block = answer.block;
+    let block = planner::plan(moved(mv))?;
     write_plan(block, buffer);
-    0
+    Ok(())
 }
 
-// Whether a duration is blocked by the plan in a buffer. 0: free. 1: blocked. 6: t isn't finite. 255: the buffer has
-// fewer than a plan's 166 doubles.
-pub fn is_blocked(buffer: &[f64], t: f64) -> u64
-    ensures { Asked buffer.now t result }
+// Whether a duration is blocked by the plan in a buffer. A time that isn't finite is refused. A wrong length where the
+// buffer has fewer than a plan's 166 doubles.
+pub fn is_blocked(buffer: &[f64], t: f64) -> Result<bool, BufferError>
+    ensures { Asked buffer.now t (asked_number result) }
 {
     if buffer.len() < PLAN_LENGTH {
-        return WRONG_LENGTH;
+        return Err(BufferError::WrongLength);
     }
-    blocking(buffer, t)
+    Ok(blocking(buffer, t)?)
 }
 
 // The numbers of the code are those of the definitions.

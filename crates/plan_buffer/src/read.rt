@@ -3,11 +3,12 @@
 ghost use Rattle.std.specs.Prelude.{◌≡◌, ◌+◌, ◌≤◌, length};
 ghost use Rattle.planner.specs.Layout.{move_length, move_of};
 ghost use Rattle.plan_buffer.specs.Layout.{ends_length, plan_length};
-ghost use Rattle.plan_buffer.specs.Buffers.{inside_numbers, inside_at, blocking_from};
+ghost use Rattle.plan_buffer.specs.Buffers.{inside_numbers, inside_at, blocking_in};
 
 use crate::layout::{DURATION_AT, STRETCH_A_AT, STRETCH_B_AT};
 use crate::write::put;
 use planner::{MOVE_LENGTH, Move};
+use refusals::Refusal;
 
 pub fn moved(mv: &[f64]) -> Move
     requires { length mv.now ≡ move_length }
@@ -15,7 +16,7 @@ pub fn moved(mv: &[f64]) -> Move
 {
     let mut numbers = [0.0; MOVE_LENGTH];
     put(&mut numbers, 0, mv);
-    Move::of(numbers)
+    Move::from(numbers)
 }
 
 // Whether t is inside a stretch of this kind and these ends.
@@ -39,18 +40,15 @@ fn inside_at(buffer: &[f64], at: usize, t: f64) -> bool
     inside(buffer[at], buffer[at + 1], buffer[at + 2], t)
 }
 
-pub fn blocking(buffer: &[f64], t: f64) -> u64
+#[tactic(auto, unfolding(crate::specs::Buffers::blocking_in, crate::specs::Buffers::is_blocked_from))]
+pub fn blocking(buffer: &[f64], t: f64) -> Result<bool, Refusal>
     requires { plan_length ≤ length buffer.now }
-    ensures { result ≡ blocking_from buffer.now t }
+    ensures { result ≡ blocking_in buffer.now t }
 {
     if !doubles::is_finite(t) {
-        return 6;
+        return Err(Refusal::TimeNotFinite);
     }
     let a = inside_at(buffer, STRETCH_A_AT, t);
     let b = inside_at(buffer, STRETCH_B_AT, t);
-    if (t < buffer[DURATION_AT]) | a | b {
-        1
-    } else {
-        0
-    }
+    Ok((t < buffer[DURATION_AT]) | a | b)
 }

@@ -1,7 +1,7 @@
 -- A plan as an axis: a time is free for it exactly where `is_blocked` says so, and number 9 doesn't turn it back where
 -- its stretches lie after its profile. Assumes nothing.
 use mathlib.Core.Path.{◌≡◌, refl, sym, ap, ◌∙◌}
-use mathlib.Core.Bool.{Bool, true, false, not, cond, ◌&&◌, ◌||◌, true≢false, false≢true}
+use mathlib.Core.Bool.{Bool, true, false, not, ◌&&◌, ◌||◌, true≢false, false≢true}
 use mathlib.Core.Logic.{◌↔◌}
 use native.Mathlib.Omega.{arith}
 use lib.Dec.{T}
@@ -19,7 +19,8 @@ use Rattle.block.specs.Plans.{After, nothing, between, from, EachAfter}
 use Rattle.block.specs.declared.Stretch.{Stretch}
 use Rattle.block.specs.declared.Stretch.TheVariants.{Nothing, Between, From}
 use Rattle.block.specs.declared.Block.{Block}
-use Rattle.block.specs.declared.Blocking.TheVariants.{Blocked, Free}
+use Rattle.std.proofs.Common.{Result, Ok}
+use Rattle.refusals.specs.declared.Refusal.{Refusal}
 use Rattle.block.proofs.StretchLaws.{from_as_between}
 use Rattle.arrival.specs.Axes.{missing, blocks, free, wrong_stretch, wrong_axis}
 use Rattle.planner.specs.Arrival.{axis_of_plan}
@@ -56,11 +57,11 @@ free_not_blocked b t f =
     none_of (t <ᶠ b.t_min) _ _ _ _ (blocks_inside b.a.stretch t f) (blocks_inside b.b.stretch t f)
 
 -- so it is free exactly where `is_blocked` answers that it is
-pub free_says : (b : Block) (t : Float) → Finite t → (blocking_of b t ≡ Free) ↔ (free (axis_of_plan b) t ≡ true)
+pub free_says : (b : Block) (t : Float) → Finite t → (blocking_of b t ≡ Ok false) ↔ (free (axis_of_plan b) t ≡ true)
 unfolding blocking_of
 free_says b t f = rw (is_true (finite t) f, free_not_blocked b t f) (go (is_blocked b t))
   where
-    go : (q : Bool) → (cond q Blocked Free ≡ Free) ↔ (not q ≡ true)
+    go : (q : Bool) → (◌≡◌ {A = Result Bool Refusal} (Ok q) (Ok false)) ↔ (not q ≡ true)
     go true = (λ e. absurd (let z : ⊥ = omega (arith, ap blocking_number e) in z), λ e. absurd (false≢true e))
     go false = (λ e. refl, λ e. refl)
 

@@ -15,12 +15,12 @@ use Rattle.doubles.specs.Value.{Fits, Finite}
 use Rattle.doubles.proofs.FunctionLaws.{holds}
 use Rattle.doubles.proofs.SumOrderLaws.{not_below_zero}
 use Rattle.profile.specs.declared.Profile.{Profile}
-use Rattle.block.specs.Blocks.{total, duration}
+use Rattle.refusals.specs.Numbers.{number_of}
+use Rattle.block.specs.Blocks.{total, duration, Answer, plan_in}
 use Rattle.block.specs.Plans.{Beside, Each}
 use Rattle.block.specs.declared.Stretch.{Stretch}
 use Rattle.block.specs.declared.Stretch.TheVariants.{Nothing, Between, From}
 use Rattle.block.specs.declared.Block.{Block}
-use Rattle.block.specs.declared.Answer.{Answer}
 use Rattle.arrival.specs.Axes.{wrong_axis}
 use Rattle.get_profile.specs.GetProfile.{get_profile_answer}
 use Rattle.get_profile.specs.Answered.{AcceptedFor}
@@ -76,28 +76,28 @@ part t f i h k =
       within = is_false (t_max <ᶠ t) k;
     }
 
-module _ (x : Move) (accepted : (answer_of x).refusal ≡ 0) where
+module _ (x : Move) (accepted : number_of (answer_of x) ≡ 0) where
   is_admitted : Admitted x
   is_admitted = (admitted x).0 (inl accepted)
 
   answer_is : answer_of x ≡ get_profile_answer (input_of x) x.limits
   answer_is = admitted_answer x is_admitted
 
-  accepted_each : Each (AcceptedFor (input_of x) x.limits) (answer_of x).block
+  accepted_each : Each (AcceptedFor (input_of x) x.limits) (plan_in (answer_of x))
   accepted_each = rw answer_is ((answered (input_of x) x.limits).each (rw answer_is at accepted))
 
   -- its profile, and the far profile of each stretch, has the move's start and target, and its durations
-  pub plan_of_move : Each (OfMove x) (answer_of x).block
-  plan_of_move = each_with {P = λ q. Unit {0}} (λ q _ h. of_move x q h) (answer_of x).block tt tt tt accepted_each
+  pub plan_of_move : Each (OfMove x) (plan_in (answer_of x))
+  plan_of_move = each_with {P = λ q. Unit {0}} (λ q _ h. of_move x q h) (plan_in (answer_of x)) tt tt tt accepted_each
 
   -- it is what the check makes of its times, with the move's limits in either direction
-  pub plan_checked : Each (CheckedFor x) (answer_of x).block
-  plan_checked = each_with {P = λ q. Unit {0}} (λ q _ h. checked_for x q h) (answer_of x).block tt tt tt accepted_each
+  pub plan_checked : Each (CheckedFor x) (plan_in (answer_of x))
+  plan_checked = each_with {P = λ q. Unit {0}} (λ q _ h. checked_for x q h) (plan_in (answer_of x)) tt tt tt accepted_each
 
   -- and ends at the target
-  pub plan_arrives : PlanOfDoubles (answer_of x).block → Each (Arrives x) (answer_of x).block
+  pub plan_arrives : PlanOfDoubles (plan_in (answer_of x)) → Each (Arrives x) (plan_in (answer_of x))
   plan_arrives d =
-      each_with (λ q e h. arrives x q h e) (answer_of x).block d.shortest d.beside_a d.beside_b accepted_each
+      each_with (λ q e h. arrives x q h e) (plan_in (answer_of x)) d.shortest d.beside_a d.beside_b accepted_each
 
   -- ---- its duration
   durations_finite : Finite x.brake × Finite x.accel
@@ -133,23 +133,23 @@ module _ (x : Move) (accepted : (answer_of x).refusal ≡ 0) where
         duration_is = unfold duration in (rw ((of_move x q h).brake_is, (of_move x q h).accel_is));
       }
 
-  t_min_is : (answer_of x).block.t_min ≡ at (sums (answer_of x).block.p_min.t) 6 +ᶠ x.brake +ᶠ x.accel
+  t_min_is : (plan_in (answer_of x)).t_min ≡ at (sums (plan_in (answer_of x)).p_min.t) 6 +ᶠ x.brake +ᶠ x.accel
   unfolding duration total
   t_min_is =
-      let q = (answer_of x).block.p_min in
-      let t : (answer_of x).block.t_min ≡ duration q = rw answer_is
+      let q = (plan_in (answer_of x)).p_min in
+      let t : (plan_in (answer_of x)).t_min ≡ duration q = rw answer_is
       ((answered (input_of x) x.limits).lasts (rw answer_is at accepted)) in
       let s = (accepted_tells x q accepted_each.shortest).motion.t_sum in
       let m = plan_of_move.shortest in
       t ∙ rw (s, m.brake_is, m.accel_is)
 
-  t_min_lasts : (answer_of x).block.t_min ≡ duration (answer_of x).block.p_min
+  t_min_lasts : (plan_in (answer_of x)).t_min ≡ duration (plan_in (answer_of x)).p_min
   t_min_lasts = rw answer_is ((answered (input_of x) x.limits).lasts (rw answer_is at accepted))
 
   pub plan_lasts : Fits x.brake → Fits x.accel
-      → Finite (answer_of x).block.t_min × T (0ᶠ ≤ᶠ (answer_of x).block.t_min)
+      → Finite (plan_in (answer_of x)).t_min × T (0ᶠ ≤ᶠ (plan_in (answer_of x)).t_min)
   plan_lasts b a =
-      let q = (answer_of x).block.p_min in
+      let q = (plan_in (answer_of x)).p_min in
       let k = lasting q accepted_each.shortest in
       let hb = brake_part b in
       let ha = accel_part a in
@@ -158,10 +158,10 @@ module _ (x : Move) (accepted : (answer_of x).refusal ≡ 0) where
         holds _ (duration_at_least_zero (total q) x.brake x.accel k.total_is hb ha),
       )
 
-  pub plan_duration : Fits x.brake → Fits x.accel → OfDoubles (answer_of x).block.p_min
-      → Finite (answer_of x).block.t_min × T (0ᶠ ≤ᶠ (answer_of x).block.t_min)
+  pub plan_duration : Fits x.brake → Fits x.accel → OfDoubles (plan_in (answer_of x)).p_min
+      → Finite (plan_in (answer_of x)).t_min × T (0ᶠ ≤ᶠ (plan_in (answer_of x)).t_min)
   plan_duration b a d =
-      let q = (answer_of x).block.p_min in
+      let q = (plan_in (answer_of x)).p_min in
       let h = accepted_each.shortest in
       let s = (accepted_tells x q h).motion in
       let w = durations_within in
@@ -171,18 +171,18 @@ module _ (x : Move) (accepted : (answer_of x).refusal ≡ 0) where
       (time x.brake b durations_finite.0 w.0) w.1 (time x.accel a durations_finite.1 w.2) w.3)
 
   -- and as an axis number 9 doesn't turn it back
-  pub plan_joinable : Fits x.brake → Fits x.accel → wrong_axis (axis_of_plan (answer_of x).block) ≡ false
+  pub plan_joinable : Fits x.brake → Fits x.accel → wrong_axis (axis_of_plan (plan_in (answer_of x))) ≡ false
   plan_joinable b a =
       plan_right x.brake x.accel (brake_part b) (accel_part a) (AcceptedFor (input_of x) x.limits) lasting
-      (answer_of x).block t_min_lasts accepted_each.shortest
+      (plan_in (answer_of x)) t_min_lasts accepted_each.shortest
       (rw answer_is (answered_after (input_of x) x.limits (rw answer_is at accepted)))
 
 -- ---- what is promised of an answer
-pub promised : (x : Move) (r : Answer) → Fits x.brake → Fits x.accel → PlanOfDoubles r.block → r ≡ answer_of x
-    → (r ≡ answer_of x) × Promise x r × FiniteDuration r
+pub promised : (x : Move) (r : Answer) → Fits x.brake → Fits x.accel → (number_of r ≡ 0 → PlanOfDoubles (plan_in r))
+    → r ≡ answer_of x → (r ≡ answer_of x) × Promise x r × FiniteDuration r
 promised x r b a d e =
-    let d' : PlanOfDoubles (answer_of x).block = rw e at d in
-    (e, rw e (λ h. plan_arrives x h d'), rw e (λ h. plan_duration x h b a d'.shortest))
+    let d' : number_of (answer_of x) ≡ 0 → PlanOfDoubles (plan_in (answer_of x)) = rw e at d in
+    (e, rw e (λ h. plan_arrives x h (d' h)), rw e (λ h. plan_duration x h b a (d' h).shortest))
 
 pub joinable : (x : Move) (r : Answer) → Fits x.brake → Fits x.accel → r ≡ answer_of x → Joinable r
 joinable x r b a e = rw e (λ h. plan_joinable x h b a)

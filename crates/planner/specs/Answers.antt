@@ -1,6 +1,6 @@
 -- The answer to a move: document 01's refusals 1, 2 and 3 in the order of its table, then `get_profile` on a fresh
 -- planner and a fresh block. Definitions only.
-use Rattle.std.specs.Prelude.{◌≡◌, Bool, true, false, not, cond, ◌&&◌, ◌||◌, ◌⊎◌}
+use Rattle.std.specs.Prelude.{◌≡◌, Bool, true, false, not, cond, ◌&&◌, ◌||◌, ◌⊎◌, Err}
 use Rattle.std.specs.Float.Ieee.Scale.{finite}
 use Rattle.doubles.specs.Operators.{◌<ᶠ◌}
 use Rattle.doubles.specs.Constants.{0ᶠ}
@@ -10,8 +10,9 @@ use Rattle.profile.specs.declared.Profile.{Profile}
 use Rattle.profile.specs.declared.Start.{Start}
 use Rattle.profile.specs.declared.Target.{Target}
 use Rattle.profile.specs.declared.Limits.{Limits}
-use Rattle.block.specs.Blocks.{refused}
-use Rattle.block.specs.declared.Answer.{Answer}
+use Rattle.refusals.specs.declared.Refusal.TheVariants.{NotFinite, WrongSign, WrongDuration}
+use Rattle.refusals.specs.Numbers.{number_of}
+use Rattle.block.specs.Blocks.{Answer}
 use Rattle.get_profile.specs.GetProfile.{get_profile_answer}
 use Rattle.planner.specs.declared.Move.{Move}
 
@@ -50,9 +51,9 @@ input_of x = with_boundary empty_profile x.start x.target x.brake x.accel
 
 unfoldable pub answer_of : Move → Answer
 answer_of x =
-    cond (not (finite_move x)) (refused 1)
-    (cond (wrong_sign x.limits) (refused 2)
-    (cond (wrong_duration x) (refused 3)
+    cond (not (finite_move x)) (Err NotFinite)
+    (cond (wrong_sign x.limits) (Err WrongSign)
+    (cond (wrong_duration x) (Err WrongDuration)
     (get_profile_answer (input_of x) x.limits)))
 
 -- ---- what is said of refusals
@@ -65,4 +66,4 @@ pub record Admitted (x : Move) : Type 0 where
 
 -- the families were tried: a plan, or refusal 4 or 5
 abbrev pub Tried : Answer → Type 0
-Tried r = (r.refusal ≡ 0) ⊎ ((r.refusal ≡ 4) ⊎ (r.refusal ≡ 5))
+Tried r = (number_of r ≡ 0) ⊎ ((number_of r ≡ 4) ⊎ (number_of r ≡ 5))

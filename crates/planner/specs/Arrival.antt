@@ -3,10 +3,9 @@
 use Rattle.std.specs.Prelude.{ℕ, ◌<◌, ◌≡◌, true, false, List, [], ◌∷◌, ◌++◌, length, get_or, Result, Ok, Err, Float}
 use Rattle.doubles.specs.Operators.{◌<ᶠ◌}
 use Rattle.doubles.specs.Value.{Finite}
-use Rattle.block.specs.Blocks.{left_end, right_end, both_ends, empty_block, blocking_of}
+use Rattle.block.specs.Blocks.{left_end, right_end, both_ends, empty_block, blocking_of, Answer, plan_in}
 use Rattle.block.specs.declared.Block.{Block}
-use Rattle.block.specs.declared.Answer.{Answer}
-use Rattle.block.specs.declared.Blocking.TheVariants.{Free}
+use Rattle.refusals.specs.Numbers.{number_of}
 use Rattle.arrival.specs.Axes.{wrong_axis}
 use Rattle.arrival.specs.declared.axis.Axis.{Axis}
 use Rattle.arrival.specs.declared.answer.Arrival.{Arrival}
@@ -25,7 +24,7 @@ axis_of_plan b =
 
 -- number 9 doesn't turn back what was planned
 abbrev pub Joinable : Answer → Type 0
-Joinable r = r.refusal ≡ 0 → wrong_axis (axis_of_plan r.block) ≡ false
+Joinable r = number_of r ≡ 0 → wrong_axis (axis_of_plan (plan_in r)) ≡ false
 
 -- ---- several plans
 
@@ -48,7 +47,7 @@ AllJoinable bs = (i : ℕ) → i < length bs → wrong_axis (axis_of_plan (plan_
 
 -- `is_blocked` says of each plan that t is free
 abbrev pub AllFree : List Block → Float → Type 0
-AllFree bs t = (i : ℕ) → i < length bs → blocking_of (plan_at bs i) t ≡ Free
+AllFree bs t = (i : ℕ) → i < length bs → blocking_of (plan_at bs i) t ≡ Ok false
 
 -- what the arrival tells of the plans: each is free at its time, and at no smaller finite time all are; or at no finite
 -- time all are

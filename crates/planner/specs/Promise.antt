@@ -9,7 +9,8 @@ use Rattle.profile.specs.declared.Limits.{Limits}
 use Rattle.profile.specs.declared.ControlSigns.TheVariants.{UDDU}
 use Rattle.profile_check.specs.Check.{checked}
 use Rattle.block.specs.Plans.{Each}
-use Rattle.block.specs.declared.Answer.{Answer}
+use Rattle.refusals.specs.Numbers.{number_of}
+use Rattle.block.specs.Blocks.{Answer, plan_in}
 use Rattle.replay.specs.Replay.{stored_rows}
 use Rattle.replay.specs.Promise.{EndsAt}
 use Rattle.get_profile.specs.GetProfile.{EitherWay, JerkOf}
@@ -24,13 +25,13 @@ Arrives x q = EndsAt x.start x.target x.limits.j_max q (stored_rows false q.limi
 -- where a move is accepted, its plan's profile arrives, and so does the far profile beside each stretch between two
 -- times
 abbrev pub Promise : Move → Answer → Type 0
-Promise x r = r.refusal ≡ 0 → Each (Arrives x) r.block
+Promise x r = number_of r ≡ 0 → Each (Arrives x) (plan_in r)
 
 -- ---- what else users rely on
 
 -- the plan's duration is finite and at least 0, which -0 is too
 abbrev pub FiniteDuration : Answer → Type 0
-FiniteDuration r = r.refusal ≡ 0 → Finite r.block.t_min × T (0ᶠ ≤ᶠ r.block.t_min)
+FiniteDuration r = number_of r ≡ 0 → Finite (plan_in r).t_min × T (0ᶠ ≤ᶠ (plan_in r).t_min)
 
 -- the profile has the move's start and target, and its durations
 pub record OfMove (x : Move) (q : Profile) : Type 0 where

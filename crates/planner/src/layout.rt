@@ -8,10 +8,11 @@ use profile::{Limits, Start, Target};
 
 pub const MOVE_LENGTH: usize = 13;
 
-impl Move {
-    pub fn of(numbers: [f64; MOVE_LENGTH]) -> Move
-        ensures { result ≡ move_of numbers }
-    {
+impl From<[f64; MOVE_LENGTH]> for Move {
+    ghost from_gives = { λ numbers x. x ≡ move_of numbers };
+
+    #[tactic(auto, unfolding(crate::specs::Layout::move_of))]
+    fn from(numbers: [f64; MOVE_LENGTH]) -> Move {
         Move {
             start: Start {
                 p0: numbers[0],

@@ -1,4 +1,4 @@
-// The planner: a move in, its plan or a refusal by number out. What is promised of it is in specs/Promise.antt
+// The planner: a move in, its plan or a refusal out. What is promised of it is in specs/Promise.antt
 // and specs/Arrival.antt.
 #![tactic(auto)]
 
@@ -8,10 +8,11 @@ ghost use Rattle.planner.specs.Answers.{wrong_duration, input_of, answer_of};
 ghost use Rattle.planner.specs.Promise.{Promise, FiniteDuration};
 ghost use Rattle.planner.specs.Arrival.{Joinable};
 
-use block::Answer;
+use block::Block;
 use doubles::is_finite;
 use get_profile::get_profile;
 use profile::{Limits, Profile, Start, Target};
+use refusals::Refusal;
 
 mod layout; // layout.rt: a move's numbers in their order
 
@@ -27,18 +28,21 @@ pub struct Move {
     pub accel: f64,
 }
 
+#[tactic(auto, unfolding(crate::specs::Answers::finite_start))]
 fn finite_start(s: Start) -> bool
     ensures { result ≡ finite_start s }
 {
     is_finite(s.p0) & is_finite(s.v0) & is_finite(s.a0)
 }
 
+#[tactic(auto, unfolding(crate::specs::Answers::finite_target))]
 fn finite_target(g: Target) -> bool
     ensures { result ≡ finite_target g }
 {
     is_finite(g.pf) & is_finite(g.vf) & is_finite(g.af)
 }
 
+#[tactic(auto, unfolding(crate::specs::Answers::finite_limits))]
 fn finite_limits(m: Limits) -> bool
     ensures { result ≡ finite_limits m }
 {
@@ -49,6 +53,7 @@ fn finite_limits(m: Limits) -> bool
         & is_finite(m.j_max)
 }
 
+#[tactic(auto, unfolding(crate::specs::Answers::finite_move))]
 fn finite_move(x: Move) -> bool
     ensures { result ≡ finite_move x }
 {
@@ -59,12 +64,14 @@ fn finite_move(x: Move) -> bool
         & is_finite(x.accel)
 }
 
+#[tactic(auto, unfolding(crate::specs::Answers::wrong_sign))]
 fn wrong_sign(m: Limits) -> bool
     ensures { result ≡ wrong_sign m }
 {
     (m.v_max < 0.0) | (m.a_max < 0.0) | (m.j_max < 0.0) | (m.v_min > 0.0) | (m.a_min > 0.0)
 }
 
+#[tactic(auto, unfolding(crate::specs::Answers::wrong_duration))]
 fn wrong_duration(x: Move) -> bool
     ensures { result ≡ wrong_duration x }
 {
@@ -81,23 +88,24 @@ fn input_of(x: Move) -> Profile
     empty.with_boundary(x.start, x.target)
 }
 
-fn answer(x: Move) -> Answer
+#[tactic(auto, unfolding(crate::specs::Answers::answer_of))]
+fn answer(x: Move) -> Result<Block, Refusal>
     ensures { result ≡ answer_of x }
 {
     if !finite_move(x) {
-        return Answer::refused(1);
+        return Err(Refusal::NotFinite);
     }
     if wrong_sign(x.limits) {
-        return Answer::refused(2);
+        return Err(Refusal::WrongSign);
     }
     if wrong_duration(x) {
-        return Answer::refused(3);
+        return Err(Refusal::WrongDuration);
     }
     get_profile(input_of(x), x.limits)
 }
 
-// The plan of a move with refusal 0, or the number of its refusal with the empty plan.
-pub fn plan(x: Move) -> Answer
+// The plan of a move, or why there is none.
+pub fn plan(x: Move) -> Result<Block, Refusal>
     ensures promised { (result ≡ answer_of x) × Promise x result × FiniteDuration result }
     ensures joinable { Joinable result }
 {

@@ -23,7 +23,8 @@ use Rattle.position_third_step1.specs.TimeAllNoneAcc0Acc1.{none_slots, acc0_slot
 use Rattle.position_third_step1.specs.TimeAllNoneAcc0Acc1.{none_tries, acc0_tries, acc1_tries, none_acc0_acc1_tries}
 use Rattle.position_third_step1.specs.TimeAllNoneAcc0Acc1.{time_all_none_acc0_acc1}
 use Rattle.block.specs.declared.Stretch.TheVariants.{Between}
-use Rattle.block.specs.declared.Answer.{Answer}
+use Rattle.refusals.specs.Numbers.{number_of}
+use Rattle.block.specs.Blocks.{Answer, plan_in}
 use Rattle.get_profile.specs.GetProfile.{moving, selected_from}
 use Rattle.get_profile.proofs.FamiliesLaws.{each_on, last_of_each}
 use Rattle.planner.specs.Answers.{finite_start, finite_target, finite_limits, finite_move, wrong_sign, wrong_duration}
@@ -62,7 +63,7 @@ use Rattle.phase_times_quartic.specs.TimeAcc0.{corrected_acc0, times_acc0}
 use Rattle.phase_times_quartic.specs.TimeAcc1.{h0_acc1, h3_acc1, h2_acc1, polynom_acc1, range_acc1, times_acc1}
 use Rattle.phase_times_quartic.specs.TimeNone.{h2_none, polynom_none, newton_none, corrected_none, range_none}
 use Rattle.phase_times_quartic.specs.TimeNone.{times_none}
-use Rattle.block.specs.Blocks.{total, duration, interval_between, block_of, planned}
+use Rattle.block.specs.Blocks.{total, duration, interval_between, block_of}
 use Rattle.block.specs.Selection.{near, of_two, selected}
 use Rattle.get_profile.specs.Families.{each_of}
 
@@ -225,14 +226,14 @@ unfolding answer_of finite_move finite_start finite_target finite_limits wrong_s
     added stored fresh_list absᶠ neg lt eq of_bits
 answer_is = moving_answer passing refl refl (moving_finds _) (lit< tt)
 
-pub passing_accepted : (answer_of passing).refusal ≡ 0
-unfolding selected of_two near total planned added stored fresh_list profile_of filled with_boundary empty_profile sums
+pub passing_accepted : number_of (answer_of passing) ≡ 0
+unfolding selected of_two near total added stored fresh_list profile_of filled with_boundary empty_profile sums
     jerk_if jerks row_after stored_if outer_row middle_row rows_of direction_of swapped_limits absᶠ add sub mul div neg lt
     of_bits
-passing_accepted = ap (λ (r : Answer). r.refusal) answer_is
+passing_accepted = ap (λ (r : Answer). number_of r) answer_is
 
-pub passing_blocked : (answer_of passing).block.a.stretch ≡ Between 3ᶠ 6ᶠ
-unfolding selected of_two near total duration planned block_of interval_between added stored fresh_list profile_of filled
+pub passing_blocked : (plan_in (answer_of passing)).a.stretch ≡ Between 3ᶠ 6ᶠ
+unfolding selected of_two near total duration block_of interval_between added stored fresh_list profile_of filled
     with_boundary empty_profile sums jerk_if jerks row_after stored_if outer_row middle_row rows_of direction_of swapped_limits
     absᶠ add sub mul div neg lt of_bits
-passing_blocked = ap (λ (r : Answer). r.block.a.stretch) answer_is
+passing_blocked = ap (λ (r : Answer). (plan_in r).a.stretch) answer_is

@@ -1,7 +1,6 @@
 -- Refusal 8, by computation. Assumes nothing.
 use mathlib.Core.Path.{refl}
 use lib.Ieee.{of_bits, to_bits, neg}
-use Rattle.block.specs.Blocks.{refused}
 use Rattle.encoding.specs.Encoding.{doubles_at}
 use Rattle.planner.specs.Answers.{finite_start, finite_move, answer_of}
 use Rattle.decimals.specs.Decimal.{decimal}
@@ -13,7 +12,7 @@ use Rattle.shop_checks.specs.WorkedMoves.{RefusedRecords}
 
 pub refused_records : RefusedRecords
 unfolding record_bytes record_of is_malformed record_move move_of doubles_at line_with answer_with refusal_fields decimal answer_of
-    finite_move finite_start refused to_bits of_bits neg
+    finite_move finite_start to_bits of_bits neg
 refused_records =
     record {
       cut = refl;

@@ -46,8 +46,7 @@ use Rattle.position_third_step1.specs.TimeAllSingleStep.{single_step_slots, sing
 use Rattle.position_third_step1.specs.TimeAllVel.{all_vel_slots, all_vel_tries}
 use Rattle.position_third_step1.specs.TwoStep.{none_two_step_shared, none_two_step_slots, none_two_step_tries}
 use Rattle.block.specs.Blocks.{total, duration, no_interval, interval_from, interval_between, block_of, empty_block}
-use Rattle.block.specs.Blocks.{planned}
-use Rattle.block.specs.Blocks.{refused, is_blocked, blocking_of}
+use Rattle.block.specs.Blocks.{is_blocked, blocking_of}
 use Rattle.block.specs.Selection.{near, of_two, selected}
 use Rattle.get_profile.specs.Families.{unless_found, first_of}
 use Rattle.get_profile.specs.GetProfile.{resting, two_step, first_search, try_families, after_passing}
@@ -81,7 +80,7 @@ unfolding record_bytes record_of is_malformed record_move move_of doubles_at lin
     times_acc1 corrected_acc1 none_two_step_tries none_two_step_slots none_two_step_shared numbers none_two_step_radicand scaled_root
     times_none_two_step times_none_single_step always all_vel_tries all_vel_slots t3_acc0_acc1_vel times_acc0_acc1_vel single_step_tries
     single_step_slots changes_acceleration starts_accelerated starts_moving starts_at_target times_at_constant_speed acceptance
-    single_step_answer after_passing selected of_two near total duration planned refused block_of empty_block no_interval
+    single_step_answer after_passing selected of_two near total duration block_of empty_block no_interval
     interval_from interval_between blocking_of is_blocked checked passes accepted times_pass phases_pass sum_passes zero_passes
     zeros_pass end_passes rows_pass sums jerk_if jerks row_after stored_if outer_row middle_row rows_of bounds_of direction_of
     quartic_of with_quadratic inserted ascending_of sorted_from placed sqrt_of cbrt_of third_angle_cosine_of third_angle_sine_of

@@ -60,7 +60,9 @@ use Rattle.phase_times_quartic.specs.TimeAcc0.{corrected_acc0, times_acc0}
 use Rattle.phase_times_quartic.specs.TimeAcc1.{h0_acc1, h3_acc1, h2_acc1, polynom_acc1, range_acc1, times_acc1}
 use Rattle.phase_times_quartic.specs.TimeNone.{h2_none, polynom_none, newton_none, corrected_none, range_none}
 use Rattle.phase_times_quartic.specs.TimeNone.{times_none}
-use Rattle.block.specs.Blocks.{total, refused}
+use Rattle.std.proofs.Common.{Err}
+use Rattle.refusals.specs.declared.Refusal.TheVariants.{NoRemoval}
+use Rattle.block.specs.Blocks.{total}
 use Rattle.block.specs.Selection.{near, alike, alike_removal, removal, of_four, selected}
 use Rattle.get_profile.specs.Families.{each_of}
 
@@ -250,7 +252,7 @@ unfolding answer_of finite_move finite_start finite_target finite_limits wrong_s
     added stored fresh_list absᶠ neg lt eq of_bits
 answer_is = moving_answer turning refl refl (moving_finds _) (lit< tt)
 
-pub four_accepted : answer_of turning ≡ refused 5
+pub four_accepted : answer_of turning ≡ Err NoRemoval
 unfolding selected of_four removal alike_removal alike near total added stored fresh_list profile_of filled with_boundary
     empty_profile sums jerk_if jerks row_after stored_if outer_row middle_row rows_of direction_of swapped_limits absᶠ add sub
     mul div neg lt of_bits

@@ -50,7 +50,8 @@ use Rattle.position_third_step1.specs.TimeAllNoneAcc0Acc1.{none_tries, acc0_trie
 use Rattle.position_third_step1.specs.TimeAllSingleStep.{single_step_slots, single_step_tries, acceptance}
 use Rattle.position_third_step1.specs.TimeAllVel.{all_vel_slots, all_vel_tries}
 use Rattle.position_third_step1.specs.TwoStep.{none_two_step_shared, none_two_step_slots, none_two_step_tries}
-use Rattle.block.specs.Blocks.{total, duration, no_interval, block_of, planned}
+use Rattle.block.specs.Blocks.{total, duration, no_interval, block_of}
+use Rattle.refusals.specs.Numbers.{number_of}
 use Rattle.block.specs.Selection.{selected}
 use Rattle.get_profile.specs.Families.{unless_found, first_of}
 use Rattle.get_profile.specs.GetProfile.{resting, two_step, first_search, try_families, after_passing}
@@ -58,7 +59,7 @@ use Rattle.get_profile.specs.GetProfile.{single_step_answer, get_profile_by, get
 use Rattle.planner.specs.Answers.{finite_start, finite_target, finite_limits, finite_move, wrong_sign, wrong_duration}
 use Rattle.planner.specs.Answers.{answer_of}
 
-move_2_accepted : (answer_of move_2).refusal ≡ 0
+move_2_accepted : number_of (answer_of move_2) ≡ 0
 unfolding answer_of finite_move finite_start finite_target finite_limits wrong_sign wrong_duration with_boundary empty_profile
     get_profile_answer get_profile get_profile_by has_zero_limit try_families first_search ends_at_rest rests_at_target points_up
     towards_target resting two_step first_of unless_found run bind in_turn answered only_if added stored fresh_list profile_of
@@ -69,7 +70,7 @@ unfolding answer_of finite_move finite_start finite_target finite_limits wrong_s
     none_two_step_shared numbers none_two_step_radicand scaled_root times_none_two_step times_none_single_step always all_vel_tries
     all_vel_slots t3_acc0_acc1_vel times_acc0_acc1_vel single_step_tries single_step_slots changes_acceleration starts_accelerated
     starts_moving starts_at_target times_at_constant_speed acceptance single_step_answer after_passing selected total duration
-    planned block_of no_interval passes accepted times_pass phases_pass sum_passes zero_passes zeros_pass end_passes rows_pass
+    block_of no_interval passes accepted times_pass phases_pass sum_passes zero_passes zeros_pass end_passes rows_pass
     sums jerk_if jerks row_after stored_if outer_row middle_row rows_of bounds_of direction_of quartic_of with_quadratic inserted
     ascending_of sorted_from placed sqrt_of of_bits add sub mul div neg lt le eq absᶠ
 move_2_accepted = refl
@@ -85,7 +86,7 @@ unfolding answer_of finite_move finite_start finite_target finite_limits wrong_s
     none_two_step_shared numbers none_two_step_radicand scaled_root times_none_two_step times_none_single_step always all_vel_tries
     all_vel_slots t3_acc0_acc1_vel times_acc0_acc1_vel single_step_tries single_step_slots changes_acceleration starts_accelerated
     starts_moving starts_at_target times_at_constant_speed acceptance single_step_answer after_passing selected total duration
-    planned block_of no_interval passes accepted times_pass phases_pass sum_passes zero_passes zeros_pass end_passes rows_pass
+    block_of no_interval passes accepted times_pass phases_pass sum_passes zero_passes zeros_pass end_passes rows_pass
     sums jerk_if jerks row_after stored_if outer_row middle_row rows_of bounds_of direction_of quartic_of with_quadratic inserted
     ascending_of sorted_from placed sqrt_of of_bits add sub mul div neg lt le eq absᶠ replayed at_start phase zeroed_if
     replaced_if stored_rows position_allowance underflow T Sa Sv Sp sum_to scale exact
@@ -102,7 +103,7 @@ unfolding answer_of finite_move finite_start finite_target finite_limits wrong_s
     none_two_step_shared numbers none_two_step_radicand scaled_root times_none_two_step times_none_single_step always all_vel_tries
     all_vel_slots t3_acc0_acc1_vel times_acc0_acc1_vel single_step_tries single_step_slots changes_acceleration starts_accelerated
     starts_moving starts_at_target times_at_constant_speed acceptance single_step_answer after_passing selected total duration
-    planned block_of no_interval passes accepted times_pass phases_pass sum_passes zero_passes zeros_pass end_passes rows_pass
+    block_of no_interval passes accepted times_pass phases_pass sum_passes zero_passes zeros_pass end_passes rows_pass
     sums jerk_if jerks row_after stored_if outer_row middle_row rows_of bounds_of direction_of quartic_of with_quadratic inserted
     ascending_of sorted_from placed sqrt_of of_bits add sub mul div neg lt le eq absᶠ replayed at_start phase zeroed_if
     replaced_if stored_rows position_allowance underflow T Sa Sv Sp sum_to scale exact

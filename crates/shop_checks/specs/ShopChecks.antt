@@ -1,5 +1,5 @@
 -- Document 01's "Shop checks": its ● lines, in its order and words. Definitions only.
-use Rattle.std.specs.Prelude.{◌≡◌, true, false, [], ◌∷◌, Float}
+use Rattle.std.specs.Prelude.{◌≡◌, true, false, [], ◌∷◌, Ok, Float}
 use Rattle.std.specs.Float.{nan, binary64}
 use Rattle.std.specs.Float.Ieee.{of_bits, neg}
 use Rattle.doubles.specs.Constants.{0ᶠ, ½ᶠ, 1ᶠ, 2ᶠ, 3ᶠ, 4ᶠ, 8ᶠ}
@@ -16,11 +16,10 @@ use Rattle.profile.specs.declared.ControlSigns.TheVariants.{UDDU}
 use Rattle.profile.specs.declared.ReachedLimits.TheVariants.{Vel}
 use Rattle.profile_check.specs.Check.{checked}
 use Rattle.profile_lines.specs.Text.{ascii}
-use Rattle.block.specs.Blocks.{no_interval, block_of, planned, blocking_of}
+use Rattle.block.specs.Blocks.{no_interval, block_of, plan_in, blocking_of}
 use Rattle.block.specs.Selection.{slot, selected}
 use Rattle.block.specs.Examples.{taking}
 use Rattle.block.specs.declared.Stretch.TheVariants.{Between}
-use Rattle.block.specs.declared.Blocking.TheVariants.{Blocked, Free}
 use Rattle.planner.specs.Answers.{answer_of}
 use Rattle.planner.specs.declared.Move.{Move}
 use Rattle.moves.specs.Records.{record_of}
@@ -91,9 +90,9 @@ pub record ShopChecks : Type 0 where
   -- ● pf -4 for 4: 6 s, DOWN, Vel
   pub line_2_down : reply_of line_of 2 (record_of (record_bytes move_2_down)) ≡ ascii "2 ok 4018000000000000 DOWN Vel 0\n"
   -- ● move 3: 2.5 blocked, 3 free, 4 blocked
-  pub move_3_at_2½ : blocking_of (answer_of move_3).block 2½ᶠ ≡ Blocked
-  pub move_3_at_3 : blocking_of (answer_of move_3).block 3ᶠ ≡ Free
-  pub move_3_at_4 : blocking_of (answer_of move_3).block 4ᶠ ≡ Blocked
+  pub move_3_at_2½ : blocking_of (plan_in (answer_of move_3)) 2½ᶠ ≡ Ok true
+  pub move_3_at_3 : blocking_of (plan_in (answer_of move_3)) 3ᶠ ≡ Ok false
+  pub move_3_at_4 : blocking_of (plan_in (answer_of move_3)) 4ᶠ ≡ Ok true
   -- ● √9 = 3, √-1 NaN
   pub sqrt_9 : sqrt_of 9ᶠ ≡ 3ᶠ
   pub sqrt_minus_1 : sqrt_of (neg 1ᶠ) ≡ nan
@@ -114,7 +113,7 @@ pub record ShopChecks : Type 0 where
   pub longer_rest : (checked (resting after_t_max) UDDU Vel false 1ᶠ ones).ok ≡ false
   -- ● totals 1 + 2^-50 then 1: the first, no stretch
   pub near_pair : selected (slot (taking near1 ∷ taking 1ᶠ ∷ [])) 2
-      ≡ planned (block_of (taking near1) no_interval no_interval)
+      ≡ Ok (block_of (taking near1) no_interval no_interval)
   -- ● 1 and 1 + 2^-49: a stretch
   pub far_pair : selected (slot (taking 1ᶠ ∷ taking past1 ∷ [])) 2
-      ≡ planned (block_of (taking 1ᶠ) (record { stretch = Between 1ᶠ past1; profile = taking past1 }) no_interval)
+      ≡ Ok (block_of (taking 1ᶠ) (record { stretch = Between 1ᶠ past1; profile = taking past1 }) no_interval)

@@ -1,10 +1,12 @@
 -- Moves that show what the promise of demand 3 is about, and in which order moves and records are turned back.
 -- Definitions only.
-use Rattle.std.specs.Prelude.{◌≡◌, [], ◌∷◌, ◌++◌, take, set, Float}
+use Rattle.std.specs.Prelude.{◌≡◌, [], ◌∷◌, ◌++◌, take, set, Err, Float}
 use Rattle.std.specs.Float.{nan, binary64}
 use Rattle.std.specs.Float.Ieee.{of_bits, neg}
 use Rattle.doubles.specs.Constants.{0ᶠ, ½ᶠ, 1ᶠ, 2ᶠ, 3ᶠ, 4ᶠ, 6ᶠ}
-use Rattle.block.specs.Blocks.{refused}
+use Rattle.refusals.specs.declared.Refusal.TheVariants.{NotFinite, WrongSign, WrongDuration, NoProfile, NoRemoval}
+use Rattle.refusals.specs.Numbers.{number_of}
+use Rattle.block.specs.Blocks.{plan_in}
 use Rattle.block.specs.declared.Stretch.TheVariants.{Between}
 use Rattle.planner.specs.Answers.{answer_of}
 use Rattle.planner.specs.Promise.{Promise}
@@ -29,9 +31,9 @@ passing =
 
 pub record PromiseApplies : Type 0 where
   -- move 2 is accepted, and so is a move with a stretch between two times: the promise has something to say
-  pub move_2_accepted : (answer_of move_2).refusal ≡ 0
-  pub passing_accepted : (answer_of passing).refusal ≡ 0
-  pub passing_blocked : (answer_of passing).block.a.stretch ≡ Between 3ᶠ 6ᶠ
+  pub move_2_accepted : number_of (answer_of move_2) ≡ 0
+  pub passing_accepted : number_of (answer_of passing) ≡ 0
+  pub passing_blocked : (plan_in (answer_of passing)).a.stretch ≡ Between 3ᶠ 6ᶠ
   -- one plan for every move breaks it: that of move 1, the boundary with zero times, on move 2, and that of move 2 on
   -- move 1
   pub staying_breaks_it : Promise move_2 (answer_of move_1) → ⊥
@@ -61,11 +63,11 @@ turning =
 
 -- where several refusals apply, the first of document 01's table is given; each leaves the empty plan
 pub record RefusalsInOrder : Type 0 where
-  pub all_wrong : answer_of (wrong nan (neg 1ᶠ) (neg 1ᶠ)) ≡ refused 1
-  pub limits_and_duration_wrong : answer_of (wrong 0ᶠ (neg 1ᶠ) (neg 1ᶠ)) ≡ refused 2
-  pub duration_wrong : answer_of (wrong 0ᶠ 0ᶠ (neg 1ᶠ)) ≡ refused 3
-  pub none_accepted : answer_of move_4 ≡ refused 4
-  pub four_accepted : answer_of turning ≡ refused 5
+  pub all_wrong : answer_of (wrong nan (neg 1ᶠ) (neg 1ᶠ)) ≡ Err NotFinite
+  pub limits_and_duration_wrong : answer_of (wrong 0ᶠ (neg 1ᶠ) (neg 1ᶠ)) ≡ Err WrongSign
+  pub duration_wrong : answer_of (wrong 0ᶠ 0ᶠ (neg 1ᶠ)) ≡ Err WrongDuration
+  pub none_accepted : answer_of move_4 ≡ Err NoProfile
+  pub four_accepted : answer_of turning ≡ Err NoRemoval
 
 -- refusal 8, also of a record whose numbers are wrong: the input ends after 106 bytes or after one, the length is 104,
 -- the version 2. No byte is no record, and a byte

@@ -8,7 +8,7 @@ returns-then-c-gt0 c =
     first_planned _ _ (six_slots c.args.c _ c.well_formed.1.0) c.if-c-gt0.true _
     c.after_passing.ensures
     c.none.ensures
-    c.planned.ensures
+    c.new.ensures
 
 pub returns : goal.returns
-returns c = none_planned _ _ c.if-c-gt0.false c.refused.ensures
+returns c = none_planned _ _ c.if-c-gt0.false

@@ -1,40 +1,27 @@
 -- `plan_buffer::plan` meets its contract. Assumes nothing.
-use Rattle.plan_buffer.proofs.AnswerLaws.{wrong_move, short_buffer, refused_move, planned_move, holds_joinable, never}
+use Rattle.plan_buffer.proofs.AnswerLaws.{wrong_move, short_buffer, refused_move, planned_move, holds_joinable}
+use Rattle.plan_buffer.proofs.AnswerLaws.{is_refused}
 use Rattle.plan_buffer.proofs.plan.Goals as goal
 
-pub returns-then-mv-ne-MOVE_LENGTH : goal.returns-then-mv-ne-MOVE_LENGTH
-returns-then-mv-ne-MOVE_LENGTH c =
-    record { planned = wrong_move _ _ c.if-mv-ne-MOVE_LENGTH.true; joinable = λ z. never z }
+pub returns-then-mv-ne-MOVE_LENGTH-clause-planned : goal.returns-then-mv-ne-MOVE_LENGTH-clause-planned
+returns-then-mv-ne-MOVE_LENGTH-clause-planned c = wrong_move _ _ c.if-mv-ne-MOVE_LENGTH.true
 
-pub returns-then-buffer-lt-PLAN_LENGTH : goal.returns-then-buffer-lt-PLAN_LENGTH
-returns-then-buffer-lt-PLAN_LENGTH c =
-    record {
-      planned = short_buffer _ _ c.if-mv-ne-MOVE_LENGTH.false c.if-buffer-lt-PLAN_LENGTH.true;
-      joinable = λ z. never z;
-    }
+pub returns-then-buffer-lt-PLAN_LENGTH-clause-planned : goal.returns-then-buffer-lt-PLAN_LENGTH-clause-planned
+returns-then-buffer-lt-PLAN_LENGTH-clause-planned c =
+    short_buffer _ _ c.if-mv-ne-MOVE_LENGTH.false c.if-buffer-lt-PLAN_LENGTH.true
 
-pub returns-then-refusal-ne0 : goal.returns-then-refusal-ne0
-returns-then-refusal-ne0 c =
-    record {
-      planned = refused_move _ _ c.if-mv-ne-MOVE_LENGTH.false c.if-buffer-lt-PLAN_LENGTH.false _ _
-          c.moved.ensures
-          c.plan-answer.ensures.promised.0
-          c.if-refusal-ne0.true;
-      joinable = λ z. absurd (c.if-refusal-ne0.true z);
-    }
+pub returns-in_err-block-clause-planned : goal.returns-in_err-block-clause-planned
+returns-in_err-block-clause-planned c =
+    rw (is_refused _ _ c.from_residual.ensures.1)
+    (refused_move _ _ c.if-mv-ne-MOVE_LENGTH.false c.if-buffer-lt-PLAN_LENGTH.false _
+    c.moved.ensures _ c.in_err-block.ensures.promised.0)
 
-pub returns : goal.returns
-returns c =
-    let promised = c.plan-answer.ensures.promised in
-    record {
-      planned = planned_move _ _ c.if-mv-ne-MOVE_LENGTH.false c.if-buffer-lt-PLAN_LENGTH.false _ _
-          c.moved.ensures
-          promised.0
-          _
-          c.if-refusal-ne0.false
-          promised.1
-          promised.2
-          c.write_plan.ensures;
-      joinable = holds_joinable c.args.buffer.now _ c.plan-answer.result c.if-refusal-ne0.false c.plan-answer.ensures.joinable
-          c.write_plan.ensures;
-    }
+pub returns-clause-planned : goal.returns-clause-planned
+returns-clause-planned c =
+    let promised = c.in_ok-block.ensures.promised in
+    planned_move _ _ c.if-mv-ne-MOVE_LENGTH.false c.if-buffer-lt-PLAN_LENGTH.false _
+    c.moved.ensures _ _ promised.0 promised.1 promised.2 c.write_plan.ensures
+
+pub returns-clause-joinable : goal.returns-clause-joinable
+returns-clause-joinable c =
+    holds_joinable c.args.buffer.now _ _ c.in_ok-block.ensures.joinable c.write_plan.ensures

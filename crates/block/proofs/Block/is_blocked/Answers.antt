@@ -7,28 +7,8 @@ pub returns-then-not-is_finite : goal.returns-then-not-is_finite
 unfolding blocking_of is_blocked
 returns-then-not-is_finite c = says _ _ _ (rw (← c.is_finite.ensures, c.if-not-is_finite.true))
 
-pub returns-then-t-self : goal.returns-then-t-self
+pub returns : goal.returns
 unfolding blocking_of is_blocked
-returns-then-t-self c =
-    let asked = c.is_finite in
+returns c =
     says _ _ _
-    (rw (
-      ← asked.ensures,
-      c.if-not-is_finite.false,
-      ← c.contains.ensures,
-      ← c.contains-2.ensures,
-      c.if-t-self.true,
-    ))
-
-pub returns-else-t-self : goal.returns-else-t-self
-unfolding blocking_of is_blocked
-returns-else-t-self c =
-    let asked = c.is_finite in
-    says _ _ _
-    (rw (
-      ← asked.ensures,
-      c.if-not-is_finite.false,
-      ← c.contains.ensures,
-      ← c.contains-2.ensures,
-      c.if-t-self.false,
-    ))
+    (rw (← c.is_finite.ensures, c.if-not-is_finite.false, ← c.contains.ensures, ← c.contains-2.ensures))

@@ -28,4 +28,4 @@ returns c =
     three_made c.args.profiles _ (size_of_law 3 c.args.profiles _ c.well_formed.0)
     c.total.ensures c.total-2.ensures c.total-3.ensures
     c.fastest_of_three-fastest.ensures c.from_profiles.ensures c.none.ensures
-    c.planned.ensures
+    c.new.ensures

@@ -1,15 +1,16 @@
 -- `moves::lines::put_answer` meets its contract. Assumes nothing.
 use Rattle.std.proofs.Common.{arith}
-use borrow.Author.Tests.{eq-eqb, ne_eqb, leb-true}
+use borrow.Author.Tests.{leb-true}
 use Rattle.profile_lines.proofs.PutLaws.{within}
 use Rattle.moves.specs.Lines.{answer_with}
 use Rattle.moves.proofs.lines.put_answer.Goals as goal
 
-pub returns-then-x-eq0 : goal.returns-then-x-eq0
+pub returns-in-Ok : goal.returns-in-Ok
 unfolding answer_with
-returns-then-x-eq0 g c = rw (eq-eqb _ _ c.if-x-eq0.true) c.put_plan.ensures
+returns-in-Ok g c = rw c.in-Ok.is c.put_plan.ensures
 
-pub returns-else-x-eq0 : goal.returns-else-x-eq0
+pub returns-in-Err : goal.returns-in-Err
 unfolding answer_with
-returns-else-x-eq0 g c =
-    rw (ne_eqb _ _ c.if-x-eq0.false) (within (omega (arith, leb-true _ _ g.met.F.Form.refusals_fit)) c.put_refusal.ensures)
+returns-in-Err g c =
+    rw c.in-Err.is
+    (within (omega (arith, leb-true _ _ g.met.F.Form.refusals_fit)) (rw c.from.ensures at c.put_refusal.ensures))

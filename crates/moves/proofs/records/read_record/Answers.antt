@@ -25,6 +25,6 @@ returns c =
     reads _ _ (rw (
       sym c.is_empty.ensures ∙ c.if-is_empty.false,
       sym c.is_malformed.ensures ∙ c.if-is_malformed.false,
-      c.of.ensures,
+      c.from.ensures,
       c.doubles_at.ensures,
     ))

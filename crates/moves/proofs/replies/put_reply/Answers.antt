@@ -11,7 +11,7 @@ returns-in-None g c =
 pub returns-in-Some-Err : goal.returns-in-Some-Err
 returns-in-Some-Err g c =
     rw (sym c.read_record.ensures.record_is ∙ c.in-Some-Err.is, c.in-Some-Err.field-0-is)
-    (record { appends = rw (c.refused.ensures, c.from.ensures) at c.put_line.ensures; goes_on_value = refl })
+    (record { appends = c.put_line.ensures; goes_on_value = refl })
 
 pub returns-in-Some-Ok : goal.returns-in-Some-Ok
 returns-in-Some-Ok g c =

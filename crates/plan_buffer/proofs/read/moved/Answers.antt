@@ -6,4 +6,4 @@ use Rattle.plan_buffer.proofs.read.moved.Goals as goal
 
 pub returns : goal.returns
 returns c =
-    c.of.ensures ∙ ap move_of (c.put.ensures ∙ store_whole _ _ move_length c.requires refl)
+    c.from.ensures ∙ ap move_of (c.put.ensures ∙ store_whole _ _ move_length c.requires refl)
