@@ -1,6 +1,6 @@
 -- The line that answers a record: what selection answers, and what `is_blocked` says of four times. Definitions only.
-use Rattle.std.specs.Prelude.{ℕ, cond, List, ◌++◌, eqb}
-use Rattle.encoding.specs.Encoding.{double_at}
+use Rattle.std.specs.Prelude.{ℕ, cond, List, ◌++◌, eqb, Float}
+use Rattle.std.specs.List.{flat_map}
 use Rattle.profile_lines.specs.Text.{ascii}
 use Rattle.profile_lines.specs.Fields.{field, hex, double_fields}
 use Rattle.decimals.specs.Decimal.{decimal}
@@ -11,7 +11,7 @@ use Rattle.block.specs.declared.Block.{Block}
 use Rattle.block.specs.declared.Answer.{Answer}
 use Rattle.block.specs.declared.Blocking.{Blocking}
 use Rattle.block.specs.declared.Blocking.TheVariants.{Blocked, Free, NotFinite}
-use Rattle.block_test.specs.Records.{selected_of, given_of}
+use Rattle.block_test.specs.Records.{selected_of, given_of, times_of}
 
 -- ---- the answer of a selection
 
@@ -37,15 +37,14 @@ blocking_name Blocked = ascii "blocked"
 blocking_name Free = ascii "free"
 blocking_name NotFinite = ascii "refused 6"
 
--- for the four times of the record
-unfoldable pub blocking_fields : Block → List ℕ → List ℕ
-blocking_fields x b =
-    field (blocking_name (blocking_of x (double_at b 193)))
-    ++ field (blocking_name (blocking_of x (double_at b 201)))
-    ++ field (blocking_name (blocking_of x (double_at b 209)))
-    ++ field (blocking_name (blocking_of x (double_at b 217)))
+-- for each of some times
+abbrev pub blocking_fields : Block → List Float → List ℕ
+blocking_fields x times = flat_map (λ (t : Float). field (blocking_name (blocking_of x t))) times
 
 -- a refusal leaves the empty plan
 unfoldable pub line_of : List ℕ → List ℕ
 line_of b =
-    answer_text (selected_of b) ++ blocking_fields (selected_of b).block b ++ blocking_fields (given_of b) b ++ ascii "\n"
+    answer_text (selected_of b)
+    ++ blocking_fields (selected_of b).block (times_of b)
+    ++ blocking_fields (given_of b) (times_of b)
+    ++ ascii "\n"

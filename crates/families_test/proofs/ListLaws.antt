@@ -4,10 +4,7 @@ use mathlib.Core.Path.{◌≡◌, ap, ◌∙◌}
 use mathlib.Core.List.{List}
 use native.Mathlib.Omega.{arith}
 use lib.ListN.{length, get_or, set, replicate, take, drop}
-use Rattle.std.proofs.Common.{◌+◌, ◌-◌, min, sym, [], ◌∷◌, ◌++◌, add-one, append-nil}
-use Rattle.std.proofs.Math.Seq.{take-suc}
-use Rattle.std.proofs.lemmas.Grind.{flat_map-append}
-use Rattle.std.specs.List.{flat_map}
+use Rattle.std.proofs.Common.{◌+◌, ◌-◌, min, sym}
 use Rattle.std.proofs.lemmas.List.{drop-take, take_min, length-take, drop_min}
 use Rattle.profile.specs.Boundary.{empty_profile}
 use Rattle.profile.specs.declared.Profile.{Profile}
@@ -22,12 +19,6 @@ unfolding list_of
 list_is b n {q} p h =
     ap (λ (z : Profile). record { valid_profiles = set (replicate 6 z) n q; current_index = n }) h
     ∙ ap (λ (z : Profile). record { valid_profiles = set (replicate 6 empty_profile) n z; current_index = n }) p
-
--- texts of elements, one behind the other: one more
-pub one_more_text : {A : Type 0} (f : A → List ℕ) (xs : List A) (i : ℕ) (d : A) → i < length xs
-    → flat_map f (take i xs) ++ f (get_or xs i d) ≡ flat_map f (take (i + 1) xs)
-one_more_text f xs i d h =
-    rw (add-one, take-suc xs i d, flat_map-append f (take i xs) (get_or xs i d ∷ []), append-nil (f (get_or xs i d)))
 
 -- the elements from n on of the first i, taken as a part of the list
 pub part_taken : {A : Type 0} (l : List A) (i n : ℕ)

@@ -1,8 +1,7 @@
 -- `families_test::lines::put_profiles` meets its contract: the first of the profiles are appended. Assumes nothing.
 use Rattle.std.proofs.Common.{arith}
 use Rattle.profile_lines.specs.Fields.{profile_fields}
-use Rattle.profile_lines.proofs.PutLaws.{nothing, then, within}
-use Rattle.families_test.proofs.ListLaws.{one_more_text}
+use Rattle.profile_lines.proofs.PutLaws.{nothing, then, within, one_more_text}
 use Rattle.families_test.proofs.lines.put_profiles.Goals as goal
 
 pub loop-q-init : goal.loop-q-init
