@@ -3,7 +3,7 @@ use mathlib.Core.Path.{◌≡◌, refl, sym, ap, ◌∙◌, subst}
 use Prim.Native.Nat.{ℕ, zero, suc, ◌+◌, ◌*◌, ◌^◌, ◌≤◌, ◌<◌}
 use native.Mathlib.Nat.{mul-pos, mul-le-mul_right, zero-lt-suc}
 use native.Mathlib.Omega.{arith}
-use mathlib.Core.Bool.{Bool, true, false, not, ◌&&◌, beq}
+use mathlib.Core.Bool.{Bool, true, false, not, beq}
 use lib.IntN.{ℤ, pos}
 use lib.Dec.{T, eqb, eqb_refl}
 use lib.Pow.{pow_pos}
@@ -12,6 +12,7 @@ use lib.Ieee.{fits, is_nan, of_bits}
 use lib.Ieee.Bits.{is_true}
 use lib.Ieee.Fits.{up_pos}
 use lib.Ieee.Scale.{finite}
+use Rattle.std.specs.Float.{float_is_finite}
 use Rattle.doubles.specs.Operators.{◌-ᶠ◌, ◌≤ᶠ◌, ◌!=ᶠ◌}
 use Rattle.doubles.specs.Constants.{0ᶠ}
 use Rattle.doubles.specs.Functions.{absᶠ}
@@ -103,9 +104,8 @@ abs_below_finite (inf s) (fin t n d) h = absurd h
 abs_below_finite (fin s m e) y h = tt
 
 -- ---- finite is between the infinities
-pub finite_test : (x : Float) → (lt x (inf false) && lt (inf true) x) ≡ finite x
-unfolding lt
+pub finite_test : (x : Float) → float_is_finite x ≡ finite x
+unfolding float_is_finite
 finite_test nan = refl
-finite_test (inf true) = refl
-finite_test (inf false) = refl
+finite_test (inf s) = refl
 finite_test (fin s m e) = refl

@@ -1,8 +1,7 @@
 -- `doubles::is_finite` meets its contract. Assumes nothing.
+use mathlib.Core.Path.{◌∙◌}
 use Rattle.doubles.proofs.FunctionLaws.{finite_test}
-use lib.Ieee.{of_bits, div, neg}
 use Rattle.doubles.proofs.is_finite.Goals as goal
 
 pub returns : goal.returns
-unfolding of_bits div neg
-returns c = finite_test _
+returns c = c.is_finite.ensures.value ∙ finite_test c.args.x
