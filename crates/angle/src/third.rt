@@ -4,6 +4,7 @@ ghost use Rattle.std.specs.Float.{binary64};
 ghost use Rattle.std.specs.Float.Ieee.{of_bits};
 ghost use Rattle.elementary.specs.Functions.{third_angle_cosine_of, third_angle_sine_of};
 ghost use Rattle.angle.specs.Arguments.{double_of};
+ghost use Rattle.angle.specs.declared.candidate.Estimate.{Estimate};
 
 use crate::candidate::{Estimate, estimated};
 use crate::{Argument, Pattern, classify};
@@ -16,8 +17,11 @@ pub trait ThirdAngle {
     fn known(cos: f64, sin: f64) -> f64
         ensures { (t : Float) → cos ≡ third_angle_cosine_of t → sin ≡ third_angle_sine_of t → result ≡ of t };
 
-    // Its candidate, of which nothing is claimed.
-    fn candidate(t: f64, e: Estimate) -> f64;
+    // Its candidate, of whose distance nothing is claimed.
+    ghost candidate_of: { Float → Estimate → Float };
+
+    fn candidate(t: f64, e: Estimate) -> f64
+        ensures { result ≡ candidate_of t e };
 
     // Whether c is for certain the pattern of the double nearest to it.
     fn certified(t: Pattern, c: u64) -> bool

@@ -21,7 +21,9 @@ struct Unanswered {
 
 impl Unanswered {
     // Reads what is there, and says whether there was any. A read that fails is as the end of the input.
-    fn read_more<R: Read>(&mut self, reader: &mut R) -> bool {
+    fn read_more<R: Read>(&mut self, reader: &mut R) -> bool
+        ensures { self.old.length ≤ self.new.length }
+    {
         match reader.read(&mut self.buffer[self.length..]) {
             Ok(count) => {
                 self.length += count;
@@ -47,7 +49,9 @@ impl Unanswered {
         rt: &P,
         lines: &mut ArrayVec<u8, BUFFER_LENGTH>,
         n: u64,
-    ) -> Option<u64> {
+    ) -> Option<u64>
+        ensures { self.new.length ≤ self.old.length }
+    {
         lines.clear();
         let batch = replies_to::<F, BUFFER_LENGTH>(n, &self.buffer[..self.length], lines);
         rt.write_all(lines.as_slice()).ok()?;

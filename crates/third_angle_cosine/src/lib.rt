@@ -2,6 +2,7 @@
 #![tactic(auto)]
 
 ghost use Rattle.std.specs.Prelude.{◌≡◌};
+ghost use Rattle.angle.specs.Candidates.{cosine_candidate};
 ghost use Rattle.elementary.specs.Functions.{third_angle_cosine_of};
 
 use angle::candidate::Estimate;
@@ -19,6 +20,8 @@ impl ThirdAngle for Cosine {
     fn known(cos: f64, sin: f64) -> f64 {
         cos
     }
+
+    ghost candidate_of = { λ _ e. cosine_candidate e.u e.d };
 
     fn candidate(t: f64, e: Estimate) -> f64 {
         e.cosine()

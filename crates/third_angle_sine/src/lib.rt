@@ -2,6 +2,7 @@
 #![tactic(auto)]
 
 ghost use Rattle.std.specs.Prelude.{◌≡◌};
+ghost use Rattle.angle.specs.Candidates.{sine_candidate};
 ghost use Rattle.elementary.specs.Functions.{third_angle_sine_of};
 
 use angle::candidate::Estimate;
@@ -19,6 +20,8 @@ impl ThirdAngle for Sine {
     fn known(cos: f64, sin: f64) -> f64 {
         sin
     }
+
+    ghost candidate_of = { λ t e. sine_candidate t e.u e.d e.square e.rest };
 
     fn candidate(t: f64, e: Estimate) -> f64 {
         e.sine(t)
