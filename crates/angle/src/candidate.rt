@@ -106,30 +106,29 @@ fn small_sine(t: f64) -> f64
     s + f / (2.0 * s * (9.0 - 48.0 * q * (1.0 - q)) + f * y * (1.5 - 24.0 * q))
 }
 
-impl Estimate {
-    pub fn cosine(self) -> f64
-        ensures { result ≡ cosine_candidate self.u self.d }
-    {
-        0.5 + 0.5 * self.u + 0.5 * self.d
-    }
+// The candidates take the numbers of an estimate one by one: as a struct they go through memory, and a pair takes a sixth
+// longer.
+pub fn cosine_candidate(u: f64, d: f64) -> f64
+    ensures { result ≡ cosine_candidate u d }
+{
+    0.5 + 0.5 * u + 0.5 * d
+}
 
-    // √(3 - 2v - v²) / 2. The rounding error of the main term is part of the small one.
-    fn large_sine(self) -> f64
-        ensures { result ≡ large_sine self.u self.d self.square self.rest }
-    {
-        let b = 3.0 - 2.0 * self.u;
-        let a = b - self.square;
-        let e = b - a - self.square - self.rest - self.d * (2.0 + 2.0 * self.u + self.d);
-        0.5 * near_root(a, e, inverse_root(a))
-    }
+// √(3 - 2v - v²) / 2. The rounding error of the main term is part of the small one.
+fn large_sine(u: f64, d: f64, square: f64, rest: f64) -> f64
+    ensures { result ≡ large_sine u d square rest }
+{
+    let b = 3.0 - 2.0 * u;
+    let a = b - square;
+    let e = b - a - square - rest - d * (2.0 + 2.0 * u + d);
+    0.5 * near_root(a, e, inverse_root(a))
+}
 
-    // The sine for the t of the estimate.
-    pub fn sine(self, t: f64) -> f64
-        ensures { result ≡ sine_candidate t self.u self.d self.square self.rest }
-    {
-        if t > 0.9921875 {
-            return small_sine(t);
-        }
-        self.large_sine()
+pub fn sine_candidate(t: f64, u: f64, d: f64, square: f64, rest: f64) -> f64
+    ensures { result ≡ sine_candidate t u d square rest }
+{
+    if t > 0.9921875 {
+        return small_sine(t);
     }
+    large_sine(u, d, square, rest)
 }

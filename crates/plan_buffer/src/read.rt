@@ -6,7 +6,6 @@ ghost use Rattle.plan_buffer.specs.Layout.{ends_length, plan_length};
 ghost use Rattle.plan_buffer.specs.Buffers.{inside_numbers, inside_at, blocking_in};
 
 use crate::layout::{DURATION_AT, STRETCH_A_AT, STRETCH_B_AT};
-use crate::write::put;
 use planner::{MOVE_LENGTH, Move};
 use refusals::Refusal;
 
@@ -15,7 +14,7 @@ pub fn moved(mv: &[f64]) -> Move
     ensures { result ≡ move_of mv.now }
 {
     let mut numbers = [0.0; MOVE_LENGTH];
-    put(&mut numbers, 0, mv);
+    numbers.copy_from_slice(mv);
     Move::from(numbers)
 }
 

@@ -61,15 +61,11 @@ fn numeral(n: u32) -> f64
 }
 
 // The numbers of x from `at` on.
-pub fn put(out: &mut [f64], at: usize, x: &[f64])
+fn put(out: &mut [f64], at: usize, x: &[f64])
     requires { at + length x.now ≤ length out.old }
     ensures { out.new ≡ stored out.old at x.now }
 {
-    let mut i = 0;
-    while i < x.len() {
-        out[at + i] = x[i];
-        i += 1;
-    }
+    out[at..at + x.len()].copy_from_slice(x);
 }
 
 fn put_profile(out: &mut [f64], at: usize, q: Profile)

@@ -5,7 +5,7 @@ ghost use Rattle.std.specs.Prelude.{◌≡◌};
 ghost use Rattle.angle.specs.Candidates.{cosine_candidate};
 ghost use Rattle.elementary.specs.Functions.{third_angle_cosine_of};
 
-use angle::candidate::Estimate;
+use angle::candidate::{self, Estimate};
 use angle::{Pattern, ThirdAngle, third_angle, third_angle_by_digits};
 
 pub mod certificate;
@@ -24,7 +24,7 @@ impl ThirdAngle for Cosine {
     ghost candidate_of = { λ _ e. cosine_candidate e.u e.d };
 
     fn candidate(t: f64, e: Estimate) -> f64 {
-        e.cosine()
+        candidate::cosine_candidate(e.u, e.d)
     }
 
     fn certified(t: Pattern, c: u64) -> bool {

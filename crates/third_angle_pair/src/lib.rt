@@ -4,7 +4,7 @@
 ghost use Rattle.std.specs.Prelude.{◌≡◌};
 ghost use Rattle.elementary.specs.Functions.{third_angle_cosine_of, third_angle_sine_of};
 
-use angle::candidate::estimated;
+use angle::candidate::{cosine_candidate, estimated, sine_candidate};
 use angle::{Argument, classify, nearest};
 use third_angle_cosine::Cosine;
 use third_angle_sine::Sine;
@@ -23,9 +23,12 @@ pub fn third_angle_pair(t: f64) -> Pair
         Argument::Known(cos, sin) => Pair { cos, sin },
         Argument::Inside(i) => {
             let e = estimated(t);
+            let u = e.u;
+            let d = e.d;
+            let sin = sine_candidate(t, u, d, e.square, e.rest);
             Pair {
-                cos: nearest::<Cosine>(i, e.cosine()),
-                sin: nearest::<Sine>(i, e.sine(t)),
+                cos: nearest::<Cosine>(i, cosine_candidate(u, d)),
+                sin: nearest::<Sine>(i, sin),
             }
         }
     }

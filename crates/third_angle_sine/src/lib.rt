@@ -5,7 +5,7 @@ ghost use Rattle.std.specs.Prelude.{◌≡◌};
 ghost use Rattle.angle.specs.Candidates.{sine_candidate};
 ghost use Rattle.elementary.specs.Functions.{third_angle_sine_of};
 
-use angle::candidate::Estimate;
+use angle::candidate::{self, Estimate};
 use angle::{Pattern, ThirdAngle, third_angle, third_angle_by_digits};
 
 pub mod certificate;
@@ -24,7 +24,7 @@ impl ThirdAngle for Sine {
     ghost candidate_of = { λ t e. sine_candidate t e.u e.d e.square e.rest };
 
     fn candidate(t: f64, e: Estimate) -> f64 {
-        e.sine(t)
+        candidate::sine_candidate(t, e.u, e.d, e.square, e.rest)
     }
 
     fn certified(t: Pattern, c: u64) -> bool {

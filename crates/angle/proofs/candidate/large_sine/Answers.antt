@@ -1,6 +1,6 @@
--- `angle::candidate::Estimate::large_sine` meets its contract. Assumes nothing.
+-- `angle::candidate::large_sine` meets its contract. Assumes nothing.
 use Rattle.angle.specs.Candidates.{large_sine}
-use Rattle.angle.proofs.candidate.Estimate.large_sine.Goals as goal
+use Rattle.angle.proofs.candidate.large_sine.Goals as goal
 
 pub returns : goal.returns
 unfolding large_sine

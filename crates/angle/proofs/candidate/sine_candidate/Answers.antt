@@ -1,6 +1,6 @@
--- `angle::candidate::Estimate::sine` meets its contract. Assumes nothing.
+-- `angle::candidate::sine_candidate` meets its contract. Assumes nothing.
 use Rattle.angle.specs.Candidates.{sine_candidate}
-use Rattle.angle.proofs.candidate.Estimate.sine.Goals as goal
+use Rattle.angle.proofs.candidate.sine_candidate.Goals as goal
 
 pub returns-then-t : goal.returns-then-t
 unfolding sine_candidate
