@@ -25,7 +25,7 @@ WIDTHS = {
 PATH = re.compile(r"\.before(?:\s*\.before)*")
 NUMBER = re.compile(rf"(?<![\w.·-])({'|'.join(map(str, LAYOUT))})(?:[iu](?:8|16|32|64|128|size))?(?![\w·-]|\.\d)")
 # A byte's place in a record of a test program, which has a layout of its own.
-OWN_PLACE = re.compile(r"(double_at b|doubleAt b|get_or b|getD b|doubles?_at\(bytes,) \d+|bytes\[\d+\]")
+OWN_PLACE = re.compile(r"(double_at b|doubleAt b|get_or b|getD b|doubles?_at\(bytes,) \d+|get_or bytes.now \d+|\b(bytes|of)\[\d+\]")
 COMMENT = {".rt": re.compile(r"//[^\n]*"), ".antt": re.compile(r"(?<!\S)--(?!\S)[^\n]*")}
 
 

@@ -42,6 +42,32 @@ fn main(rt: HostRuntime) {}
             [("stated", True), ("by_names", True), ("bare", False), ("lent", True), ("main", False)],
         )
 
+    def test_traits_and_generics(self):
+        text = """
+pub trait Form<const LENGTH: usize> {
+    ghost text: { ℕ → List ℕ };
+    fn put(line: &mut ArrayVec<u8, LENGTH>, n: u64)
+        ensures { line.new ≡ text n };
+    fn bare(n: u64) -> [u8; 2];
+}
+
+impl<'a> Form<8> for Short<'a> {
+    ghost text = { short };
+    fn put(line: &mut ArrayVec<u8, 8>, n: u64) {}
+}
+
+fn nested<F: Form<L>, G: Fn(u8) -> u8, const L: usize>(n: u64) -> Option<[u8; L]>
+    where F: Copy
+    ensures { result ≡ None }
+{
+    None
+}
+"""
+        self.assertEqual(
+            list(unstated.functions(text)),
+            [("put", True), ("bare", False), ("put", True), ("nested", True)],
+        )
+
     def test_the_project_lists_only_programs(self):
         for source in unstated.CRATES.glob("*/src/lib.rt"):
             for name, stated in unstated.functions(source.read_text(encoding="utf-8")):

@@ -3,22 +3,25 @@
 
     python3 tools/unstated.py
 
-Entry 28 of docs/DECISIONS.md names them and says why; the last line counts.
+A function of an `impl` of a trait has the clauses of the trait, which is listed itself where it is ours. Entry 28 of
+docs/DECISIONS.md names the functions and says why; the last line counts.
 """
 import re
 import sys
 from pathlib import Path
 
 CRATES = Path(__file__).resolve().parent.parent / "crates"
-CLAUSE = re.compile(r"\s*(requires|ensures|\{|->)")
+CLAUSE = re.compile(r"\s*(requires|ensures|where|\{|;|->)")
+RESULT = re.compile(r"(?:[^{;\[]|\[[^\]]*\])*?(?=\s*(?:\brequires\b|\bensures\b|\bwhere\b|\{|;))", re.S)
+OF_TRAIT = re.compile(r"^\s*impl\b[^{;]*\bfor\b[^{;]*(?=\{)", re.M)
 
 
 def closed(text, at):
     """The place behind the bracket that closes the one at `at`."""
-    close = {"(": ")", "{": "}"}[text[at]]
+    close = {"(": ")", "{": "}", "<": ">"}[text[at]]
     depth = 0
     for i in range(at, len(text)):
-        depth += (text[i] == text[at]) - (text[i] == close)
+        depth += (text[i] == text[at]) - (text[i] == close and text[i - 1 : i + 1] != "->")
         if depth == 0:
             return i + 1
     raise ValueError(f"unclosed {text[at]}")
@@ -29,21 +32,23 @@ def states_result(text, at):
     at = closed(text, at)
     while True:
         clause = CLAUSE.match(text, at)
-        if clause[1] == "{":
+        if clause[1] in ("{", ";"):
             return False
         if clause[1] == "ensures":
             return True
         if clause[1] == "requires":
             at = closed(text, text.index("{", clause.end()))
         else:
-            at = re.compile(r"[^{]*?(?=\s*(?:requires|ensures|\{))", re.S).match(text, clause.end()).end()
+            at = RESULT.match(text, clause.end()).end()
 
 
 def functions(text):
     """Each function's name, and whether it states its result."""
     text = re.sub(r"//[^\n]*", "", text)
-    for head in re.finditer(r"\bfn\s+(\w+)(?:<[^>]*>)?\s*(?=\()", text):
-        yield head[1], states_result(text, head.end())
+    of_trait = [range(head.end(), closed(text, head.end())) for head in OF_TRAIT.finditer(text)]
+    for head in re.finditer(r"\bfn\s+(\w+)\s*(?=[<(])", text):
+        at = closed(text, head.end()) if text[head.end()] == "<" else head.end()
+        yield head[1], any(head.start() in span for span in of_trait) or states_result(text, text.index("(", at))
 
 
 def main():

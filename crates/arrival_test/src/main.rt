@@ -4,105 +4,95 @@
 // too many doubles. oracle/tools/make_stored.py makes the stored input and output.
 #![tactic(auto)]
 
-ghost use Rattle.std.specs.Prelude.{◌≡◌, ◌+◌, ◌*◌, ◌≤◌, length, take};
-ghost use Rattle.io.specs.Counts.{IsPrefixLen};
-ghost use Rattle.profile_lines.specs.Text.{Puts};
-ghost use Rattle.arrival_test.specs.Lines.{durations_most, ends_most, doubles_from};
-ghost use Rattle.arrival_test.specs.Lines.{text_of, text_width, line_length, Answers};
+ghost use Rattle.std.specs.Prelude.{◌≡◌, ◌+◌, ◌*◌, ◌≤◌, length};
+ghost use Rattle.arrayvec.specs.ArrayVec.{array_vec_len};
+ghost use Rattle.profile_lines.specs.Text.{Appends};
+ghost use Rattle.arrival_test.specs.Lines.{doubles_of, record_of, text_of, text_width};
+ghost use Rattle.arrival_test.specs.Lines.{Answers as AnswersAs};
 
+use answering::{Answers, answer_records, read_array, read_bytes};
+use arrayvec::ArrayVec;
 use arrival::{Arrival, arrival};
 use decimals::{DECIMAL_WIDTH, put_number};
 use encoding::double_at;
-use profile_lines::{DOUBLE_WIDTH, put, put_double};
+use profile_lines::{DOUBLE_WIDTH, hex, put, put_field};
 use refusals::Refusal;
+use std::io::Read;
 
 // The most durations and the most ends of a record.
 const DURATIONS_MOST: usize = 10;
 
 const ENDS_MOST: usize = 40;
 
+const DURATION_BYTES: usize = 8 * DURATIONS_MOST;
+
+const END_BYTES: usize = 8 * ENDS_MOST;
+
 // `ok`, a double, a number with a space in front, and a line feed.
 const LINE_LENGTH: usize = 2 + DOUBLE_WIDTH + 1 + DECIMAL_WIDTH + 1;
 
-// The doubles from `at` on, as the first `count` of an array.
-fn doubles_from(bytes: &[u8], at: usize, count: usize) -> [f64; ENDS_MOST]
-    requires { (count ≤ ends_most) × (at + 8 * count ≤ length bytes.now) }
-    ensures { take count result ≡ doubles_from bytes.now at count }
-{
-    let mut numbers = [0.0; ENDS_MOST];
-    let mut i = 0;
-    while i < count {
-        numbers[i] = double_at(bytes, at + 8 * i);
-        i += 1;
-    }
-    numbers
+// The bytes of the durations and of the ends.
+#[derive(Drop)]
+struct Given {
+    durations: ArrayVec<u8, DURATION_BYTES>,
+    ends: ArrayVec<u8, END_BYTES>,
 }
 
-fn put_arrival(out: &mut [u8], at: usize, answer: Result<Arrival, Refusal>) -> usize
-    requires { at + text_width ≤ length out.old }
-    ensures { Puts out.old out.new at result (text_of answer) text_width }
+#[tactic(auto, unfolding(encoding::specs::Encoding::doubles_at))]
+fn doubles_of<const N: usize>(bytes: &[u8]) -> ArrayVec<f64, N>
+    requires { length bytes.now ≤ 8 * N }
+    ensures { result.items ≡ doubles_of bytes.now }
+{
+    let mut doubles = ArrayVec::new();
+    for i in 0..bytes.len() / 8 {
+        doubles.push(double_at(bytes, 8 * i));
+    }
+    doubles
+}
+
+fn put_arrival(line: &mut ArrayVec<u8, LINE_LENGTH>, answer: Result<Arrival, Refusal>)
+    requires { array_vec_len line.old + text_width ≤ LINE_LENGTH }
+    ensures { Appends line.old line.new (text_of answer) text_width }
 {
     match answer {
         Ok(arrival) => {
-            let ok_end = put(out, at, b"ok");
-            let time_end = put_double(out, ok_end, arrival.time);
-            put_number(out, time_end, arrival.axis)
+            put(line, b"ok");
+            put_field(line, &hex(arrival.time));
+            put_number(line, arrival.axis);
         }
         Err(refusal) => {
-            let refused_end = put(out, at, b"refused");
-            put_number(out, refused_end, u64::from(refusal))
+            put(line, b"refused");
+            put_number(line, u64::from(refusal));
         }
     }
 }
 
-// The line for n durations and m ends, at the start of out, and how long it is.
-fn line(bytes: &[u8], n: usize, m: usize, out: &mut [u8; LINE_LENGTH]) -> usize
-    requires { (n ≤ durations_most) × (m ≤ ends_most) × (8 * n + 8 * m ≤ length bytes.now) }
-    ensures answers { Answers bytes.now n m out.old out.new result }
-    ensures prefix_len { IsPrefixLen result out.new }
-{
-    let durations = doubles_from(bytes, 0, n);
-    let ends = doubles_from(bytes, 8 * n, m);
-    let answer = arrival(&durations[..n], &ends[..m]);
-    let answer_end = put_arrival(out, 0, answer);
-    put(out, answer_end, b"\n")
+struct Arrivals;
+
+impl Answers<LINE_LENGTH> for Arrivals {
+    type Record = Given;
+
+    ghost bytes = { λ x. record_of x.durations.items x.ends.items };
+
+    ghost answers = { λ x text. AnswersAs x.durations.items x.ends.items text };
+
+    fn read<R: Read>(reader: &mut R) -> Option<Given> {
+        let [n, m]: [u8; 2] = read_array(reader)?;
+        let durations = read_bytes(reader, 8 * usize::from(n))?;
+        let ends = read_bytes(reader, 8 * usize::from(m))?;
+        Some(Given { durations, ends })
+    }
+
+    fn line(of: Given) -> ArrayVec<u8, LINE_LENGTH> {
+        let durations = doubles_of::<DURATIONS_MOST>(&of.durations);
+        let ends = doubles_of::<ENDS_MOST>(&of.ends);
+        let mut line = ArrayVec::new();
+        put_arrival(&mut line, arrival(&durations, &ends));
+        put(&mut line, b"\n");
+        line
+    }
 }
 
-// Answers one record, and says whether there was one and its line could be written.
-fn answer() -> bool {
-    let mut counts = [0u8; 2];
-    if io::read_full(0, &mut counts) < 2 {
-        return false;
-    }
-    let n = usize::from(counts[0]);
-    let m = usize::from(counts[1]);
-    if n > DURATIONS_MOST {
-        return false;
-    }
-    if m > ENDS_MOST {
-        return false;
-    }
-    let wanted = 8 * n + 8 * m;
-    let mut bytes = [0u8; 8 * (DURATIONS_MOST + ENDS_MOST)];
-    let count = io::read_full(0, &mut bytes[..wanted]);
-    if count < wanted {
-        return false;
-    }
-    let mut text = [0u8; LINE_LENGTH];
-    let length = line(&bytes[..wanted], n, m, &mut text);
-    io::write_all(1, &text[..length])
-}
-
-// The numbers of the code are those of the definitions.
-fn constants()
-    ensures durations_most_value { (DURATIONS_MOST ≡ durations_most) × (ENDS_MOST ≡ ends_most) }
-    ensures line_length_value { LINE_LENGTH ≡ line_length }
-{}
-
-// The count only shows that the loop ends: no input is as long.
-fn main() {
-    let mut turns = u64::MAX;
-    while turns > 0 && answer() {
-        turns -= 1;
-    }
+fn main(rt: HostRuntime) {
+    answer_records::<Arrivals, _, _>(&rt);
 }

@@ -1,6 +1,6 @@
 -- The line that answers a record: what selection answers, and what `is_blocked` says of four times. Definitions only.
-use Rattle.std.specs.Prelude.{ℕ, Bool, true, false, List, ◌++◌, Result, Ok, Err}
-use Rattle.encoding.specs.Encoding.{double_at}
+use Rattle.std.specs.Prelude.{ℕ, Bool, true, false, List, ◌++◌, Float, Result, Ok, Err}
+use Rattle.std.specs.List.{flat_map}
 use Rattle.profile_lines.specs.Text.{ascii}
 use Rattle.profile_lines.specs.Fields.{field, hex, double_fields}
 use Rattle.decimals.specs.Decimal.{decimal}
@@ -10,7 +10,7 @@ use Rattle.refusals.specs.Numbers.{refusal_number}
 use Rattle.block.specs.Blocks.{both_ends, blocking_of, Answer, plan_in}
 use Rattle.block.specs.declared.Interval.{Interval}
 use Rattle.block.specs.declared.Block.{Block}
-use Rattle.block_test.specs.Records.{selected_of, given_of}
+use Rattle.block_test.specs.Records.{selected_of, given_of, times_of}
 
 -- ---- the answer of a selection
 
@@ -37,15 +37,14 @@ blocking_name (Ok true) = ascii "blocked"
 blocking_name (Ok false) = ascii "free"
 blocking_name (Err refusal) = ascii "refused 6"
 
--- for the four times of the record
-unfoldable pub blocking_fields : Block → List ℕ → List ℕ
-blocking_fields x b =
-    field (blocking_name (blocking_of x (double_at b 193)))
-    ++ field (blocking_name (blocking_of x (double_at b 201)))
-    ++ field (blocking_name (blocking_of x (double_at b 209)))
-    ++ field (blocking_name (blocking_of x (double_at b 217)))
+-- for each of some times
+abbrev pub blocking_fields : Block → List Float → List ℕ
+blocking_fields x times = flat_map (λ (t : Float). field (blocking_name (blocking_of x t))) times
 
 -- a refusal leaves the empty plan
 unfoldable pub line_of : List ℕ → List ℕ
 line_of b =
-    answer_text (selected_of b) ++ blocking_fields (plan_in (selected_of b)) b ++ blocking_fields (given_of b) b ++ ascii "\n"
+    answer_text (selected_of b)
+    ++ blocking_fields (plan_in (selected_of b)) (times_of b)
+    ++ blocking_fields (given_of b) (times_of b)
+    ++ ascii "\n"

@@ -57,3 +57,7 @@ interval_at b at =
 
 unfoldable pub given_of : List ℕ → Block
 given_of b = record { t_min = double_at b 151; p_min = empty_profile; a = interval_at b 159; b = interval_at b 176 }
+
+-- ---- four times that a block is asked about
+abbrev pub times_of : List ℕ → List Float
+times_of b = double_at b 193 ∷ double_at b 201 ∷ double_at b 209 ∷ double_at b 217 ∷ []

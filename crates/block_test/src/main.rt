@@ -5,26 +5,46 @@
 // the profile beside it; then what `is_blocked` says of each time, for the block selected and for the block given.
 #![tactic(auto)]
 
+ghost use Rattle.std.specs.Prelude.{◌≡◌};
+ghost use Rattle.block_test.specs.Lines.{line_of};
+
 mod records; // records.rt: what the bytes of a record mean
 mod lines; // lines.rt: the line that answers a record
 
-use lines::line;
+use answering::{Answers, answer_records, read_array};
+use arrayvec::ArrayVec;
+use block::Block;
+use lines::{put_answer, put_blockings};
+use profile_lines::put;
+use records::{given_of, selected_of, times_of};
+use std::io::Read;
 
-// Answers one record, and says whether there was one and its line could be written.
-fn answer() -> bool {
-    let mut bytes = [0u8; 225];
-    if io::read_full(0, &mut bytes) < 225 {
-        return false;
+struct Blocks;
+
+impl Answers<235> for Blocks {
+    type Record = [u8; 225];
+
+    ghost bytes = { λ b. b };
+
+    ghost answers = { λ b text. text ≡ line_of b };
+
+    fn read<R: Read>(reader: &mut R) -> Option<[u8; 225]> {
+        read_array(reader)
     }
-    let mut text = [0u8; 235];
-    let length = line(&bytes, &mut text);
-    io::write_all(1, &text[..length])
+
+    fn line(of: [u8; 225]) -> ArrayVec<u8, 235> {
+        let answer = selected_of(&of);
+        let block = answer.unwrap_or(Block::empty());
+        let times = times_of(&of);
+        let mut line = ArrayVec::new();
+        put_answer(&mut line, answer);
+        put_blockings(&mut line, block, &times);
+        put_blockings(&mut line, given_of(&of), &times);
+        put(&mut line, b"\n");
+        line
+    }
 }
 
-// The count only shows that the loop ends: no input is as long.
-fn main() {
-    let mut turns = u64::MAX;
-    while turns > 0 && answer() {
-        turns -= 1;
-    }
+fn main(rt: HostRuntime) {
+    answer_records::<Blocks, _, _>(&rt);
 }

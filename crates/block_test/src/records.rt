@@ -2,13 +2,14 @@
 
 ghost use Rattle.std.specs.Prelude.{◌≡◌, ◌+◌, ◌≤◌};
 ghost use Rattle.block_test.specs.Records.{direction_of, stretch_of, profile_at, profiles_of, selected_of, interval_at};
-ghost use Rattle.block_test.specs.Records.{given_of};
+ghost use Rattle.block_test.specs.Records.{given_of, times_of};
 
 use block::{Block, Interval, Stretch};
-use encoding::double_at;
-use profile::{ControlSigns, Direction, Profile, ReachedLimits};
+use encoding::{double_at, doubles_at};
+use profile::{Direction, Profile};
 use refusals::Refusal;
 
+#[tactic(auto, unfolding(crate::specs::Records::direction_of))]
 fn direction_of(n: u8) -> Direction
     ensures { result ≡ direction_of n }
 {
@@ -18,6 +19,7 @@ fn direction_of(n: u8) -> Direction
     }
 }
 
+#[tactic(auto, unfolding(crate::specs::Records::stretch_of))]
 fn stretch_of(n: u8, left: f64, right: f64) -> Stretch
     ensures { result ≡ stretch_of n left right }
 {
@@ -33,63 +35,68 @@ fn profile_at(bytes: &[u8; 225], at: usize, mark: f64) -> Profile
     requires { at + 25 ≤ 225 }
     ensures { result ≡ profile_at bytes.now at mark }
 {
-    let total = double_at(bytes, at);
-    let direction = direction_of(bytes[at + 24]);
+    let [total, brake, accel]: [f64; 3] = doubles_at(bytes, at);
     Profile {
-        t: [0.0; 7],
         t_sum: [0.0, 0.0, 0.0, 0.0, 0.0, 0.0, total],
-        j: [0.0; 7],
-        a: [0.0; 8],
-        v: [0.0; 8],
-        p: [0.0; 8],
-        brake: double_at(bytes, at + 8),
-        accel: double_at(bytes, at + 16),
+        brake,
+        accel,
         pf: mark,
-        vf: 0.0,
-        af: 0.0,
-        limits: ReachedLimits::None,
-        direction,
-        control_signs: ControlSigns::UDDU,
+        direction: direction_of(bytes[at + 24]),
+        ..Profile::empty()
     }
 }
 
+#[tactic(auto, unfolding(crate::specs::Records::profiles_of))]
 fn profiles_of(bytes: &[u8; 225]) -> [Profile; 6]
     ensures { result ≡ profiles_of bytes.now }
 {
-    let p0 = profile_at(bytes, 1, 1.0);
-    let p1 = profile_at(bytes, 26, 2.0);
-    let p2 = profile_at(bytes, 51, 3.0);
-    let p3 = profile_at(bytes, 76, 4.0);
-    let p4 = profile_at(bytes, 101, 5.0);
-    let p5 = profile_at(bytes, 126, 6.0);
-    [p0, p1, p2, p3, p4, p5]
+    [
+        profile_at(bytes, 1, 1.0),
+        profile_at(bytes, 26, 2.0),
+        profile_at(bytes, 51, 3.0),
+        profile_at(bytes, 76, 4.0),
+        profile_at(bytes, 101, 5.0),
+        profile_at(bytes, 126, 6.0),
+    ]
 }
 
 // What selection answers.
+#[tactic(auto, unfolding(crate::specs::Records::selected_of))]
 pub fn selected_of(bytes: &[u8; 225]) -> Result<Block, Refusal>
     ensures { result ≡ selected_of bytes.now }
 {
     Block::calculate_block(profiles_of(bytes), usize::from(bytes[0]))
 }
 
+#[tactic(auto, unfolding(crate::specs::Records::interval_at, encoding::specs::Encoding::doubles_at))]
 fn interval_at(bytes: &[u8; 225], at: usize) -> Interval
     requires { at + 17 ≤ 225 }
     ensures { result ≡ interval_at bytes.now at }
 {
-    let left = double_at(bytes, at + 1);
-    let right = double_at(bytes, at + 9);
-    let stretch = stretch_of(bytes[at], left, right);
-    let profile = Profile::empty();
-    Interval { stretch, profile }
+    let [left, right]: [f64; 2] = doubles_at(bytes, at + 1);
+    Interval {
+        stretch: stretch_of(bytes[at], left, right),
+        profile: Profile::empty(),
+    }
 }
 
 // The block that the record has.
+#[tactic(auto, unfolding(crate::specs::Records::given_of))]
 pub fn given_of(bytes: &[u8; 225]) -> Block
     ensures { result ≡ given_of bytes.now }
 {
-    let p_min = Profile::empty();
-    let a = interval_at(bytes, 159);
-    let b = interval_at(bytes, 176);
-    let t_min = double_at(bytes, 151);
-    Block { t_min, p_min, a, b }
+    Block {
+        t_min: double_at(bytes, 151),
+        p_min: Profile::empty(),
+        a: interval_at(bytes, 159),
+        b: interval_at(bytes, 176),
+    }
+}
+
+// The four times that a block is asked about.
+#[tactic(auto, unfolding(encoding::specs::Encoding::doubles_at))]
+pub fn times_of(bytes: &[u8; 225]) -> [f64; 4]
+    ensures { result ≡ times_of bytes.now }
+{
+    doubles_at(bytes, 193)
 }

@@ -4,27 +4,42 @@
 // `unchanged` or `changed`; and the status of asking the buffer about the time.
 #![tactic(auto)]
 
+ghost use Rattle.std.specs.Prelude.{◌≡◌};
+ghost use Rattle.buffer_test.specs.Lines.{line_of};
+
 mod records; // records.rt: what the bytes of a record mean
 mod lines; // lines.rt: the line that answers a record
 
-use lines::{LINE_LENGTH, line};
-use records::RECORD_LENGTH;
+use answering::{Answers, answer_records, read_array};
+use arrayvec::ArrayVec;
+use encoding::{double_at, doubles_at};
+use lines::{LINE_LENGTH, answer_of};
+use records::{BUFFER_MOST, MOVE_MOST, RECORD_LENGTH, TIME_AT, count_at};
+use std::io::Read;
 
-// Answers one record, and says whether there was one and its line could be written.
-fn answer() -> bool {
-    let mut bytes = [0u8; RECORD_LENGTH];
-    if io::read_full(0, &mut bytes) < RECORD_LENGTH {
-        return false;
+struct Buffers;
+
+impl Answers<LINE_LENGTH> for Buffers {
+    type Record = [u8; RECORD_LENGTH];
+
+    ghost bytes = { λ b. b };
+
+    ghost answers = { λ b text. text ≡ line_of b };
+
+    fn read<R: Read>(reader: &mut R) -> Option<[u8; RECORD_LENGTH]> {
+        read_array(reader)
     }
-    let mut text = [0u8; LINE_LENGTH];
-    let length = line(&bytes, &mut text);
-    io::write_all(1, &text[..length])
+
+    #[tactic(auto, unfolding(crate::specs::Records::move_of, crate::specs::Records::buffer_of))]
+    fn line(of: [u8; RECORD_LENGTH]) -> ArrayVec<u8, LINE_LENGTH> {
+        let mv: [f64; MOVE_MOST] = doubles_at(&of, 2);
+        let mut buffer = [-1.0; BUFFER_MOST];
+        let m = count_at(&of, 0, MOVE_MOST);
+        let n = count_at(&of, 1, BUFFER_MOST);
+        answer_of(&mv[..m], &mut buffer[..n], double_at(&of, TIME_AT))
+    }
 }
 
-// The count only shows that the loop ends: no input is as long.
-fn main() {
-    let mut turns = u64::MAX;
-    while turns > 0 && answer() {
-        turns -= 1;
-    }
+fn main(rt: HostRuntime) {
+    answer_records::<Buffers, _, _>(&rt);
 }

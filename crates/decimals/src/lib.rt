@@ -1,31 +1,33 @@
-// Whole numbers in decimal as text in a lent slice, as `profile_lines` puts it there.
+// Whole numbers in decimal as text behind a line, as `profile_lines` puts it there.
 #![tactic(auto)]
 
-ghost use Rattle.std.specs.Prelude.{◌≡◌, ◌+◌, ◌≤◌, length};
-ghost use Rattle.profile_lines.specs.Text.{Puts};
+ghost use Rattle.std.specs.Prelude.{◌≡◌, ◌+◌, ◌≤◌};
+ghost use Rattle.arrayvec.specs.ArrayVec.{array_vec_len};
+ghost use Rattle.profile_lines.specs.Text.{Appends};
 ghost use Rattle.profile_lines.specs.Fields.{field};
 ghost use Rattle.decimals.specs.Decimal.{decimal, decimal_width, number_width};
 
+use arrayvec::ArrayVec;
 use profile_lines::put;
 
 pub const DECIMAL_WIDTH: usize = 20;
 
 // A number with no space in front.
-pub fn put_decimal(out: &mut [u8], at: usize, n: u64) -> usize
-    requires { at + decimal_width ≤ length out.old }
-    ensures { Puts out.old out.new at result (decimal n) decimal_width }
+pub fn put_decimal<const N: usize>(line: &mut ArrayVec<u8, N>, n: u64)
+    requires { array_vec_len line.old + decimal_width ≤ N }
+    ensures { Appends line.old line.new (decimal n) decimal_width }
 {
     let mut digits = [0u8; DECIMAL_WIDTH];
     let count = io::decimal(n, &mut digits);
-    put(out, at, &digits[..count])
+    put(line, &digits[..count]);
 }
 
-pub fn put_number(out: &mut [u8], at: usize, n: u64) -> usize
-    requires { at + number_width ≤ length out.old }
-    ensures { Puts out.old out.new at result (field (decimal n)) number_width }
+pub fn put_number<const N: usize>(line: &mut ArrayVec<u8, N>, n: u64)
+    requires { array_vec_len line.old + number_width ≤ N }
+    ensures { Appends line.old line.new (field (decimal n)) number_width }
 {
-    let start = put(out, at, b" ");
-    put_decimal(out, start, n)
+    put(line, b" ");
+    put_decimal(line, n);
 }
 
 // The width of the code is that of the definitions.

@@ -3,41 +3,40 @@
 // tools/elementary_vectors.py makes the stored input and output.
 #![tactic(auto)]
 
-ghost use Rattle.io.specs.Counts.{IsPrefixLen};
-ghost use Rattle.profile_lines.specs.Text.{Puts};
+ghost use Rattle.std.specs.Prelude.{◌≡◌};
 ghost use Rattle.elementary_test.specs.Lines.{line_of};
 
+use answering::{Answers, answer_records, read_array};
+use arrayvec::ArrayVec;
 use encoding::double_at;
-use profile_lines::{put, put_doubles, put_hex};
+use profile_lines::{hex, put, put_doubles};
+use std::io::Read;
 
-// The line of a record, at the start of out, and how long it is.
-fn line(bytes: &[u8; 8], out: &mut [u8; 68]) -> usize
-    ensures puts { Puts out.old out.new 0 result (line_of bytes.now) 68 }
-    ensures prefix_len { IsPrefixLen result out.new }
-{
-    let x = double_at(bytes, 0);
-    let pair = third_angle_pair::third_angle_pair(x);
-    let others = [cbrt::cbrt(x), pair.cos, pair.sin];
-    let root_end = put_hex(out, 0, sqrt::sqrt(x));
-    let others_end = put_doubles(out, root_end, &others);
-    put(out, others_end, b"\n")
+struct Functions;
+
+impl Answers<68> for Functions {
+    type Record = [u8; 8];
+
+    ghost bytes = { λ b. b };
+
+    ghost answers = { λ b text. text ≡ line_of b };
+
+    fn read<R: Read>(reader: &mut R) -> Option<[u8; 8]> {
+        read_array(reader)
+    }
+
+    #[tactic(auto, unfolding(crate::specs::Lines::answer_of))]
+    fn line(of: [u8; 8]) -> ArrayVec<u8, 68> {
+        let x = double_at(&of, 0);
+        let pair = third_angle_pair::third_angle_pair(x);
+        let mut line = ArrayVec::new();
+        put(&mut line, &hex(sqrt::sqrt(x)));
+        put_doubles(&mut line, &[cbrt::cbrt(x), pair.cos, pair.sin]);
+        put(&mut line, b"\n");
+        line
+    }
 }
 
-// Answers one record, and says whether there was one and its line could be written.
-fn answer() -> bool {
-    let mut bytes = [0u8; 8];
-    if io::read_full(0, &mut bytes) < 8 {
-        return false;
-    }
-    let mut text = [0u8; 68];
-    let length = line(&bytes, &mut text);
-    io::write_all(1, &text[..length])
-}
-
-// The count only shows that the loop ends: no input is as long.
-fn main() {
-    let mut turns = u64::MAX;
-    while turns > 0 && answer() {
-        turns -= 1;
-    }
+fn main(rt: HostRuntime) {
+    answer_records::<Functions, _, _>(&rt);
 }

@@ -3,11 +3,11 @@ use Prim.Native.Nat.{ℕ, ◌<◌}
 use mathlib.Core.Path.{◌≡◌, ap, ◌∙◌}
 use mathlib.Core.List.{List}
 use native.Mathlib.Omega.{arith}
-use lib.ListN.{length, get_or, set, replicate}
+use lib.ListN.{length, get_or, set, replicate, take, drop}
+use Rattle.std.proofs.Common.{◌+◌, ◌-◌, min, sym}
+use Rattle.std.proofs.lemmas.List.{drop-take, take_min, length-take, drop_min}
 use Rattle.profile.specs.Boundary.{empty_profile}
 use Rattle.profile.specs.declared.Profile.{Profile}
-use Rattle.profile_lines.specs.Text.{Puts}
-use Rattle.profile_lines.specs.Fields.{profile_fields}
 use Rattle.candidates.specs.List.{slot}
 use Rattle.candidates.specs.declared.Candidates.{Candidates}
 use Rattle.candidates.proofs.SlotLaws.{get_d_within}
@@ -20,13 +20,16 @@ list_is b n {q} p h =
     ap (λ (z : Profile). record { valid_profiles = set (replicate 6 z) n q; current_index = n }) h
     ∙ ap (λ (z : Profile). record { valid_profiles = set (replicate 6 empty_profile) n z; current_index = n }) p
 
--- within the list, it doesn't matter what the code takes to lie past its end
-pub slot_put : {out after : List ℕ} {at next most : ℕ} (c : Candidates) (d : Profile) (i : ℕ)
-    → length c.valid_profiles ≡ 6 → i < 6
-    → Puts out after at next (profile_fields (get_or c.valid_profiles i d)) most → Puts out after at next (profile_fields (slot c i)) most
-slot_put c d i six h p =
-    let within : i < length c.valid_profiles = omega arith in
-    rw (get_d_within c.valid_profiles i d empty_profile within) at p
+-- the elements from n on of the first i, taken as a part of the list
+pub part_taken : {A : Type 0} (l : List A) (i n : ℕ)
+    → take (min i (length l) - min n (min i (length l))) (drop (min n (min i (length l))) l) ≡ drop n (take i l)
+part_taken l i n =
+    let e = min i (length l) in
+    let a = min n e in
+    let all : a + (e - a) ≡ e = omega arith in
+    sym (drop-take a (e - a) l)
+    ∙ ap (λ (z : ℕ). drop a (take z l)) all
+    ∙ rw (take_min i l, ← length-take i l) (drop_min n (take i l))
 
 pub first_slot : (c : Candidates) (d : Profile) → length c.valid_profiles ≡ 6
     → get_or c.valid_profiles 0 d ≡ slot c 0

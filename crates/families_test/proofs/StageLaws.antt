@@ -1,5 +1,7 @@
 -- The stages of a search that are one family. Assumes nothing.
-use Prim.Native.Nat.{ℕ}
+use Prim.Native.Nat.{ℕ, ◌-◌}
+use Rattle.std.specs.Prelude.{eqb, get_or}
+use Rattle.phase_times.specs.Constants.{constants_of}
 use mathlib.Core.Path.{◌≡◌, refl, sym, ap, ◌∙◌}
 use mathlib.Core.Bool.{Bool, true, false, cond, ◌&&◌}
 use mathlib.Core.List.{List, [], ◌∷◌, ◌++◌}
@@ -39,7 +41,9 @@ use Rattle.search.specs.Stages.{moving_stage}
 use Rattle.search.specs.Stages.{two_step_stage, stage_at, stages_from, is_found, search_of}
 use Rattle.search.proofs.FoundLaws.{added_found}
 use Rattle.search.specs.declared.stages.Kind.TheVariants.{SingleStep, Resting, Moving}
-use Rattle.families_test.specs.Records.{first_found, boundary_of, list_of, called}
+use Rattle.families_test.specs.Records.{start_of, target_of, limits_of, directed, stages, stages_of, turned}
+use Rattle.families_test.specs.Records.{after_family, first_found, boundary_of, list_of, called}
+use Rattle.families_test.specs.declared.records.Stages.{Stages}
 
 -- ---- one stage is a call
 one_stage : (x : in-trees.Stage Try) (c : Candidates)
@@ -72,51 +76,51 @@ module _ (xs ys zs : List Try) (c : Candidates) where
 
 -- ---- the families: r is the list after their stages
 module _ (start : Start) (target : Target) (k : Constants) (m : Limits) (c : Candidates) {r : Candidates} where
-  pub all_vel : r ≡ found (search_of start target k m (stages_from Moving 8 1) c)
+  all_vel : r ≡ found (search_of start target k m (stages_from Moving 8 1) c)
       → r ≡ found (time_all_vel c start target k m)
   unfolding stages_from stage_at moving_stage limits_for tries_of slots_of shared_of reached_by jerk_by all_vel_tries
   all_vel e = e ∙ one_stage _ c
 
-  pub acc0_acc1 : r ≡ found (search_of start target k m (stages_from Moving 6 1) c)
+  acc0_acc1 : r ≡ found (search_of start target k m (stages_from Moving 6 1) c)
       → r ≡ found (time_acc0_acc1 c start target k m false)
   unfolding stages_from stage_at moving_stage limits_for tries_of slots_of shared_of reached_by jerk_by acc0_acc1_tries
   acc0_acc1 e = e ∙ one_stage _ c
 
-  pub none_acc0_acc1 : r ≡ found (search_of start target k m (stages_from Moving 0 3) c)
+  none_acc0_acc1 : r ≡ found (search_of start target k m (stages_from Moving 0 3) c)
       → r ≡ found (time_all_none_acc0_acc1 c start target k m false)
   unfolding stages_from stage_at moving_stage polynom_family limits_for tries_of slots_of shared_of reached_by jerk_by none_tries acc0_tries acc1_tries none_acc0_acc1_tries
   none_acc0_acc1 e =
       e ∙ three_each (none_tries start target k m) (acc0_tries start target k m) (acc1_tries start target k m) c
 
-  pub acc1_vel_two_step : r ≡ found (search_of start target k m (stages_from Moving 16 1) c)
+  acc1_vel_two_step : r ≡ found (search_of start target k m (stages_from Moving 16 1) c)
       → r ≡ called true c (time_acc1_vel_two_step c start target k m)
   unfolding stages_from stage_at two_step_stage two_step_family limits_for tries_of slots_of shared_of reached_by jerk_by acc1_vel_two_step_tries
   acc1_vel_two_step e = e ∙ one_stage _ c
 
-  pub acc0_two_step : r ≡ found (search_of start target k m (stages_from Moving 12 1) c)
+  acc0_two_step : r ≡ found (search_of start target k m (stages_from Moving 12 1) c)
       → r ≡ called true c (time_acc0_two_step c start target k m)
   unfolding stages_from stage_at two_step_stage two_step_family limits_for tries_of slots_of shared_of reached_by jerk_by acc0_two_step_tries
   acc0_two_step e = e ∙ one_stage _ c
 
-  pub vel_two_step : r ≡ found (search_of start target k m (stages_from Moving 14 1) c)
+  vel_two_step : r ≡ found (search_of start target k m (stages_from Moving 14 1) c)
       → r ≡ called true c (time_vel_two_step c start target k m)
   unfolding stages_from stage_at two_step_stage two_step_family limits_for tries_of slots_of shared_of reached_by jerk_by vel_two_step_tries
   vel_two_step e = e ∙ one_stage _ c
 
-  pub none_two_step : r ≡ found (search_of start target k m (stages_from Moving 10 1) c)
+  none_two_step : r ≡ found (search_of start target k m (stages_from Moving 10 1) c)
       → r ≡ called true c (time_none_two_step c start target k m)
   unfolding stages_from stage_at two_step_stage two_step_family limits_for tries_of slots_of shared_of reached_by jerk_by none_two_step_tries
   none_two_step e = e ∙ one_stage _ c
 
   -- ---- with `return_after_found`, from limits that are m towards the target
   module _ (w : Limits) (towards : towards_target k w ≡ m) where
-    pub first_acc0_acc1 : r ≡ found (search_of start target k w (stages_from Resting 4 1) c)
+    first_acc0_acc1 : r ≡ found (search_of start target k w (stages_from Resting 4 1) c)
         → r ≡ called true c (time_acc0_acc1 c start target k m true)
     unfolding stages_from stage_at resting_stage resting_family limits_for tries_of slots_of shared_of reached_by jerk_by acc0_acc1_tries
     first_acc0_acc1 e =
         e ∙ one_stage _ c ∙ ap (λ (n : Limits). called true c (time_acc0_acc1 c start target k n true)) towards
 
-    pub first_none_acc0_acc1 : r ≡ found (search_of start target k w (stages_from Resting 1 3) c)
+    first_none_acc0_acc1 : r ≡ found (search_of start target k w (stages_from Resting 1 3) c)
         → r ≡ called true c (time_all_none_acc0_acc1 c start target k m true)
     unfolding stages_from stage_at resting_stage resting_family polynom_family limits_for tries_of slots_of shared_of reached_by jerk_by none_tries acc0_tries acc1_tries none_acc0_acc1_tries
     first_none_acc0_acc1 e =
@@ -124,6 +128,44 @@ module _ (start : Start) (target : Target) (k : Constants) (m : Limits) (c : Can
         e
         ∙ three_first (none_tries start target k n) (acc0_tries start target k n) (acc1_tries start target k n) c
         ∙ ap (λ (n : Limits). called true c (time_all_none_acc0_acc1 c start target k n true)) towards
+
+-- ---- the family of each number: its stages make the limits m of w
+module _ (start : Start) (target : Target) (k : Constants) (m : Limits) (c : Candidates) (w : Limits) {r : Candidates} where
+  by_number : (b0 b1 b2 b3 b4 b5 returns : Bool) {s : Stages}
+      → s ≡ cond b0 (stages Moving 8 9)
+      (cond b1 (cond returns (stages Resting 4 5) (stages Moving 6 7))
+      (cond b2 (cond returns (stages Resting 1 4) (stages Moving 0 3))
+      (cond b3 (stages Moving 16 17)
+      (cond b4 (stages Moving 12 13) (cond b5 (stages Moving 14 15) (stages Moving 10 11))))))
+      → turned s.kind k w ≡ m → r ≡ found (search_of start target k w (stages_from s.kind s.from (s.to - s.from)) c)
+      → r ≡ cond b0 (found (time_all_vel c start target k m))
+      (cond b1 (called returns c (time_acc0_acc1 c start target k m returns))
+      (cond b2 (called returns c (time_all_none_acc0_acc1 c start target k m returns))
+      (cond b3 (called true c (time_acc1_vel_two_step c start target k m))
+      (cond b4 (called true c (time_acc0_two_step c start target k m))
+      (cond b5 (called true c (time_vel_two_step c start target k m))
+      (called true c (time_none_two_step c start target k m)))))))
+  by_number true _ _ _ _ _ _ f t e = rw (← (rw f at t)) (all_vel _ _ _ _ _ (rw f at e))
+  by_number false true _ _ _ _ true f t e = first_acc0_acc1 _ _ _ _ _ _ (rw f at t) (rw f at e)
+  by_number false true _ _ _ _ false f t e = rw (← (rw f at t)) (acc0_acc1 _ _ _ _ _ (rw f at e))
+  by_number false false true _ _ _ true f t e = first_none_acc0_acc1 _ _ _ _ _ _ (rw f at t) (rw f at e)
+  by_number false false true _ _ _ false f t e = rw (← (rw f at t)) (none_acc0_acc1 _ _ _ _ _ (rw f at e))
+  by_number false false false true _ _ _ f t e = rw (← (rw f at t)) (acc1_vel_two_step _ _ _ _ _ (rw f at e))
+  by_number false false false false true _ _ f t e = rw (← (rw f at t)) (acc0_two_step _ _ _ _ _ (rw f at e))
+  by_number false false false false false true _ f t e = rw (← (rw f at t)) (vel_two_step _ _ _ _ _ (rw f at e))
+  by_number false false false false false false _ f t e = rw (← (rw f at t)) (none_two_step _ _ _ _ _ (rw f at e))
+
+pub family_law : (b : List ℕ) (c : Candidates) (w : Limits) {k : Constants} {s : Stages} {r : Candidates}
+    → k ≡ constants_of (start_of b) (target_of b) (limits_of b)
+    → s ≡ stages_of (get_or b 104 0) (eqb (get_or b 106 0) 1) → turned s.kind k w ≡ directed b
+    → r ≡ found (search_of (start_of b) (target_of b) k w (stages_from s.kind s.from (s.to - s.from)) c)
+    → r ≡ after_family b c
+unfolding stages_of after_family
+family_law b c w {k} {s} {r} constants family t e =
+    let n = get_or b 104 0 in
+    rw (← constants)
+    (by_number (start_of b) (target_of b) k (directed b) c w (eqb n 0) (eqb n 1) (eqb n 2) (eqb n 3) (eqb n 4) (eqb n 5)
+    (eqb (get_or b 106 0) 1) family t e)
 
 -- ---- the single-step path: the list's first profile, and whether it counts
 single_step_found : (b : List ℕ) (xs : List Try)

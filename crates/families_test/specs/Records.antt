@@ -10,6 +10,7 @@ use Rattle.profile.specs.declared.Target.{Target}
 use Rattle.profile.specs.declared.Limits.{Limits}
 use Rattle.profile_check.specs.Check.{Checked}
 use Rattle.phase_times.specs.Constants.{constants_of}
+use Rattle.phase_times.specs.declared.constants.Constants.{Constants}
 use Rattle.trees.specs.Tree.{run}
 use Rattle.candidates.specs.Try.{passes}
 use Rattle.candidates.specs.List.{slot}
@@ -21,7 +22,11 @@ use Rattle.position_third_step1.specs.TimeAllNoneAcc0Acc1.{time_all_none_acc0_ac
 use Rattle.position_third_step1.specs.TwoStep.{time_acc1_vel_two_step, time_acc0_two_step, time_vel_two_step}
 use Rattle.position_third_step1.specs.TwoStep.{time_none_two_step}
 use Rattle.position_third_step1.specs.TimeAllSingleStep.{time_all_single_step}
+use Rattle.search.specs.Choices.{towards_target}
 use Rattle.search.specs.Stages.{is_found}
+use Rattle.search.specs.declared.stages.Kind.{Kind}
+use Rattle.search.specs.declared.stages.Kind.TheVariants.{SingleStep, Itself, Resting, Moving}
+use Rattle.families_test.specs.declared.records.Stages.{Stages}
 
 -- ---- p0 v0 a0 pf vf af v_max v_min a_max a_min j_max brake accel
 unfoldable pub start_of : List ℕ → Start
@@ -50,6 +55,27 @@ directed b = cond (eqb (get_or b 105 0) 1) (swapped_limits (limits_of b)) (limit
 -- a list of which n empty profiles count, and the record's boundary behind them
 unfoldable pub list_of : List ℕ → ℕ → Candidates
 list_of b n = record { valid_profiles = set (replicate 6 empty_profile) n (boundary_of b); current_index = n }
+
+-- ---- the stages of a search that are a family
+abbrev pub stages : Kind → (from to : ℕ) → Stages
+stages kind from to = record { kind = kind; from = from; to = to }
+
+unfoldable pub stages_of : ℕ → (return-after-found : Bool) → Stages
+stages_of family return-after-found =
+    cond (eqb family 0) (stages Moving 8 9)
+    (cond (eqb family 1) (cond return-after-found (stages Resting 4 5) (stages Moving 6 7))
+    (cond (eqb family 2) (cond return-after-found (stages Resting 1 4) (stages Moving 0 3))
+    (cond (eqb family 3) (stages Moving 16 17)
+    (cond (eqb family 4) (stages Moving 12 13)
+    (cond (eqb family 5) (stages Moving 14 15)
+    (stages Moving 10 11))))))
+
+-- what stages of these two kinds make of the limits
+abbrev pub turned : Kind → Constants → Limits → Limits
+turned Resting k m = towards_target k m
+turned SingleStep k m = m
+turned Itself k m = m
+turned Moving k m = m
 
 -- ---- what the family gives
 

@@ -8,26 +8,45 @@
 
 #![tactic(auto)]
 
+ghost use Rattle.std.specs.Prelude.{◌≡◌};
+ghost use Rattle.families_test.specs.Lines.{line_of};
+
 mod records; // records.rt: what the bytes of a record mean
 mod lines; // lines.rt: the line that answers a record
 
-use lines::{LINE_LENGTH, line};
+use answering::{Answers, answer_records, read_array};
+use arrayvec::ArrayVec;
+use lines::{LINE_LENGTH, added_line, single_line};
+use records::{after_family, has_line, list_of, single_step};
+use std::io::Read;
 
-// Answers one record, and says whether there was one that has a line, and its line could be written.
-fn answer() -> bool {
-    let mut bytes = [0u8; 108];
-    if io::read_full(0, &mut bytes) < 108 {
-        return false;
+struct Families;
+
+impl Answers<LINE_LENGTH> for Families {
+    type Record = [u8; 108];
+
+    ghost bytes = { λ b. b };
+
+    ghost answers = { λ b text. text ≡ line_of b };
+
+    fn read<R: Read>(reader: &mut R) -> Option<[u8; 108]> {
+        let bytes: [u8; 108] = read_array(reader)?;
+        if has_line(&bytes) { Some(bytes) } else { None }
     }
-    let mut text = [0u8; LINE_LENGTH];
-    let length = line(&bytes, &mut text);
-    (length > 0) & io::write_all(1, &text[..length])
+
+    #[tactic(auto, unfolding(crate::specs::Lines::line_of))]
+    fn line(of: [u8; 108]) -> ArrayVec<u8, LINE_LENGTH> {
+        if of[104] == 7 {
+            return single_line(single_step(&of));
+        }
+        let counted = usize::from(of[107]);
+        if counted > 5 {
+            return ArrayVec::new();
+        }
+        added_line(after_family(&of, list_of(&of, counted)), counted)
+    }
 }
 
-// The count only shows that the loop ends: no input is as long.
-fn main() {
-    let mut turns = u64::MAX;
-    while turns > 0 && answer() {
-        turns -= 1;
-    }
+fn main(rt: HostRuntime) {
+    answer_records::<Families, _, _>(&rt);
 }

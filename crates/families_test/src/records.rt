@@ -1,12 +1,9 @@
 // What the bytes of a record mean.
 
-ghost use Rattle.std.specs.Prelude.{◌≡◌, ◌<◌};
+ghost use Rattle.std.specs.Prelude.{◌≡◌, ◌<◌, ◌||◌, eqb, ltb, get_or};
 ghost use Rattle.profile_check.specs.Check.{passed};
-ghost use Rattle.position_third_step1.specs.TimeAcc0Acc1.{time_acc0_acc1};
-ghost use Rattle.position_third_step1.specs.TimeAllNoneAcc0Acc1.{time_all_none_acc0_acc1};
-ghost use Rattle.search.specs.Choices.{towards_target};
 ghost use Rattle.families_test.specs.Records.{start_of, target_of, limits_of, boundary_of, directed, list_of};
-ghost use Rattle.families_test.specs.Records.{called, after_family, single_step, first_found};
+ghost use Rattle.families_test.specs.Records.{stages_of, turned, after_family, single_step, first_found};
 
 use candidates::Candidates;
 use encoding::doubles_at;
@@ -14,6 +11,7 @@ use phase_times::constants::Constants;
 use profile::{Limits, Profile, Start, Target};
 use search::{Kind, search};
 
+#[tactic(auto, unfolding(crate::specs::Records::start_of, encoding::specs::Encoding::doubles_at))]
 fn start_of(bytes: &[u8; 108]) -> Start
     ensures { result ≡ start_of bytes.now }
 {
@@ -21,6 +19,7 @@ fn start_of(bytes: &[u8; 108]) -> Start
     Start { p0, v0, a0 }
 }
 
+#[tactic(auto, unfolding(crate::specs::Records::target_of, encoding::specs::Encoding::doubles_at))]
 fn target_of(bytes: &[u8; 108]) -> Target
     ensures { result ≡ target_of bytes.now }
 {
@@ -28,6 +27,7 @@ fn target_of(bytes: &[u8; 108]) -> Target
     Target { pf, vf, af }
 }
 
+#[tactic(auto, unfolding(crate::specs::Records::limits_of, encoding::specs::Encoding::doubles_at))]
 fn limits_of(bytes: &[u8; 108]) -> Limits
     ensures { result ≡ limits_of bytes.now }
 {
@@ -53,6 +53,7 @@ fn boundary_of(bytes: &[u8; 108]) -> Profile
 }
 
 // The limits for the record's direction.
+#[tactic(auto, unfolding(crate::specs::Records::directed))]
 fn directed(bytes: &[u8; 108]) -> Limits
     ensures { result ≡ directed bytes.now }
 {
@@ -61,6 +62,13 @@ fn directed(bytes: &[u8; 108]) -> Limits
         return limits.swapped();
     }
     limits
+}
+
+// Whether a record has a line: the single-step path, or a list that counts five profiles at most.
+pub fn has_line(bytes: &[u8; 108]) -> bool
+    ensures { result ≡ (eqb (get_or bytes.now 104 0) 7 || ltb (get_or bytes.now 107 0) 6) }
+{
+    bytes[104] == 7 || bytes[107] < 6
 }
 
 // A list of which n empty profiles count, and the record's boundary behind them.
@@ -76,70 +84,54 @@ pub fn list_of(bytes: &[u8; 108], n: usize) -> Candidates
     }
 }
 
-// The limits of which stages towards the target make m: swapped twice, limits are as they were.
-fn before_turning(k: Constants, m: Limits) -> Limits
-    ensures { towards_target k result ≡ m }
-{
-    if k.pd >= 0.0 {
-        return m;
-    }
-    m.swapped()
+// Stages of a search: those of a kind from `from` on, up to the one before `to`.
+#[derive(Clone, Copy)]
+pub struct Stages {
+    pub kind: Kind,
+    pub from: usize,
+    pub to: usize,
 }
 
-// After `time_acc0_acc1`: with return_after_found a stage of a resting target, without one of any other.
-fn after_acc0_acc1(
-    c: Candidates,
-    start: Start,
-    target: Target,
-    k: Constants,
-    m: Limits,
-    return_after_found: bool,
-) -> Candidates
-    ensures { result ≡ called return_after_found c (time_acc0_acc1 c start target k m return_after_found) }
+// The stages that are the family of this number. With return_after_found two families are stages of a resting target.
+#[tactic(auto, unfolding(crate::specs::Records::stages_of))]
+fn stages_of(family: u8, return_after_found: bool) -> Stages
+    ensures { result ≡ stages_of family return_after_found }
 {
-    if return_after_found {
-        let w = before_turning(k, m);
-        return search(c, start, target, k, w, Kind::Resting, 4, 5);
-    }
-    search(c, start, target, k, m, Kind::Moving, 6, 7)
+    let (kind, from, to) = match (family, return_after_found) {
+        (0, _) => (Kind::Moving, 8, 9),
+        (1, true) => (Kind::Resting, 4, 5),
+        (1, false) => (Kind::Moving, 6, 7),
+        (2, true) => (Kind::Resting, 1, 4),
+        (2, false) => (Kind::Moving, 0, 3),
+        (3, _) => (Kind::Moving, 16, 17),
+        (4, _) => (Kind::Moving, 12, 13),
+        (5, _) => (Kind::Moving, 14, 15),
+        _ => (Kind::Moving, 10, 11),
+    };
+    Stages { kind, from, to }
 }
 
-// After `time_all_none_acc0_acc1`, likewise: a stage for each polynomial.
-fn after_none_acc0_acc1(
-    c: Candidates,
-    start: Start,
-    target: Target,
-    k: Constants,
-    m: Limits,
-    return_after_found: bool,
-) -> Candidates
-    ensures { result ≡ called return_after_found c (time_all_none_acc0_acc1 c start target k m return_after_found) }
+// The limits of which stages of the kind make m: limits turned towards the target twice are as they were.
+fn before_turning(kind: Kind, k: Constants, m: Limits) -> Limits
+    ensures { turned kind k result ≡ m }
 {
-    if return_after_found {
-        let w = before_turning(k, m);
-        return search(c, start, target, k, w, Kind::Resting, 1, 4);
+    match kind {
+        Kind::Resting => { if k.pd >= 0.0 { m } else { m.swapped() } }
+        Kind::SingleStep | Kind::Itself | Kind::Moving => m,
     }
-    search(c, start, target, k, m, Kind::Moving, 0, 3)
 }
 
-// The list after the record's family: those stages of a search that are the family in the direction of m.
+// The list after the record's family: those stages of a search that are the family in the record's direction.
 pub fn after_family(bytes: &[u8; 108], c: Candidates) -> Candidates
     ensures { result ≡ after_family bytes.now c }
 {
     let start = start_of(bytes);
     let target = target_of(bytes);
     let k = Constants::new(start, target, limits_of(bytes));
-    let m = directed(bytes);
-    let return_after_found = bytes[106] == 1;
-    match bytes[104] {
-        0 => search(c, start, target, k, m, Kind::Moving, 8, 9),
-        1 => after_acc0_acc1(c, start, target, k, m, return_after_found),
-        2 => after_none_acc0_acc1(c, start, target, k, m, return_after_found),
-        3 => search(c, start, target, k, m, Kind::Moving, 16, 17),
-        4 => search(c, start, target, k, m, Kind::Moving, 12, 13),
-        5 => search(c, start, target, k, m, Kind::Moving, 14, 15),
-        _ => search(c, start, target, k, m, Kind::Moving, 10, 11),
-    }
+    let stages = stages_of(bytes[104], bytes[106] == 1);
+    let kind = stages.kind;
+    let m = before_turning(kind, k, directed(bytes));
+    search(c, start, target, k, m, kind, stages.from, stages.to)
 }
 
 // The first profile of a list, where it counts.

@@ -1,4 +1,3 @@
 -- Laws of `move_stream`.
-pub mod KeepLaws
 pub mod BatchLaws
 pub mod PieceLaws

@@ -1,21 +1,13 @@
 -- Many records at once: their lines one behind the other, and how many of them are answered. Definitions only.
-use Rattle.std.specs.Prelude.{ℕ, zero, suc, ◌+◌, ◌*◌, ◌≤◌, ◌<◌, ◌≡◌, Bool, true, cond, ◌&&◌, List, [], ◌++◌, length}
+use Rattle.std.specs.Prelude.{ℕ, zero, suc, ◌+◌, ◌-◌, ◌*◌, ◌≤◌, ◌<◌, ◌≡◌, Bool, true, ◌&&◌, List, [], ◌++◌, length}
 use Rattle.std.specs.Prelude.{take, drop, Option, Result}
 use Rattle.refusals.specs.declared.Refusal.{Refusal}
 use Rattle.planner.specs.declared.Move.{Move}
-use Rattle.profile_lines.specs.Text.{Puts}
+use Rattle.arrayvec.specs.ArrayVec.{ArrayVec, array_vec_len}
 use Rattle.block.specs.Blocks.{Answer}
 use Rattle.moves.specs.Records.{record_length, record_of}
-use Rattle.moves.specs.Lines.{line_of, full_line_of, line_length, full_line_length}
 use Rattle.moves.specs.Replies.{reply_of, goes_on_after}
-use Rattle.move_stream.specs.declared.Batch.{Batch}
-
--- the two forms of a line, and how long each may be
-abbrev pub form_of : Bool → ℕ → Answer → List ℕ
-form_of full = cond full full_line_of line_of
-
-abbrev pub width_of : Bool → ℕ
-width_of full = cond full full_line_length line_length
+use Rattle.move_stream.specs.declared.batches.Batch.{Batch}
 
 -- record number k of an input, counted from 0: as many bytes as a record has, or all that are left
 unfoldable pub record_at : List ℕ → ℕ → Option (Result Move Refusal)
@@ -31,22 +23,23 @@ unfoldable pub go_on : List ℕ → ℕ → Bool
 go_on b zero = true
 go_on b (suc k) = go_on b k && goes_on_after (record_at b k)
 
--- record number k is answered: it may follow those before it, it is whole, the longest line has room behind theirs, and
--- its own number is no u64's last
-pub record Ready (full : Bool) (n : ℕ) (b : List ℕ) (room k : ℕ) : Type 0 where
+-- record number k is answered, by a line of at most `width` bytes: it may follow those before it, it is whole, the
+-- longest line has room behind theirs, and its own number is no u64's last
+pub record Ready (line : ℕ → Answer → List ℕ) (width n : ℕ) (b : List ℕ) (room k : ℕ) : Type 0 where
   pub follows : go_on b k ≡ true
   pub whole : k * record_length + record_length ≤ length b
-  pub fits : length (lines_of (form_of full) n b k) + width_of full ≤ room
+  pub fits : length (lines_of line n b k) + width ≤ room
   pub numbered : n + k < 0xffff_ffff_ffff_ffff
 
--- out becomes after: the lines of as many records as can be answered, up to the first that can't, and whether another
--- may follow these
-pub record Answered (full : Bool) (n : ℕ) (b out after : List ℕ) (r : Batch) : Type 0 where
-  pub ready : (k : ℕ) → k < r.count → Ready full n b (length out) k
-  pub ends : Ready full n b (length out) r.count → ⊥
+-- old becomes new, of a vector of this capacity: the lines of as many records as can be answered, up to the first that
+-- can't, and whether another may follow these
+pub record Answered (line : ℕ → Answer → List ℕ) (width capacity n : ℕ) (b : List ℕ) (old new : ArrayVec ℕ) (r : Batch)
+    : Type 0 where
+  pub ready : (k : ℕ) → k < r.count → Ready line width n b (capacity - array_vec_len old) k
+  pub ends : Ready line width n b (capacity - array_vec_len old) r.count → ⊥
   pub used : r.count * record_length ≤ length b
   pub next : n + r.count ≤ 0xffff_ffff_ffff_ffff
-  pub puts : Puts out after 0 r.length (lines_of (form_of full) n b r.count) (length out)
+  pub appends : new.items ≡ old.items ++ lines_of line n b r.count
   pub follows : r.goes_on ≡ go_on b r.count
 
 -- an input that comes in two pieces, b and then more: the lines of k records of b, and then of m records of what is

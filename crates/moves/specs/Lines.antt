@@ -29,14 +29,6 @@ plan_fields x =
 unfoldable pub refusal_fields : ℕ → List ℕ
 refusal_fields k = field (ascii "refused") ++ field (decimal k)
 
-unfoldable pub answer_fields : Answer → List ℕ
-answer_fields (Ok b) = plan_fields b
-answer_fields (Err refusal) = refusal_fields (refusal_number refusal)
-
--- the line of record number n
-unfoldable pub line_of : ℕ → Answer → List ℕ
-line_of n x = decimal n ++ answer_fields x ++ ascii "\n"
-
 -- ---- a line of `plan_full`: ok, the plan's duration, PROFILE, and for each of the two stretches its kind, left end,
 -- right end, PROFILE
 unfoldable pub interval_fields : Interval → List ℕ
@@ -50,12 +42,19 @@ full_fields x =
     ++ interval_fields x.a
     ++ interval_fields x.b
 
-unfoldable pub full_answer_fields : Answer → List ℕ
-full_answer_fields (Ok b) = full_fields b
-full_answer_fields (Err refusal) = refusal_fields (refusal_number refusal)
+-- ---- the line of record number n, in the form that the fields of a plan have
+unfoldable pub answer_with : (Block → List ℕ) → Answer → List ℕ
+answer_with plan (Ok b) = plan b
+answer_with plan (Err refusal) = refusal_fields (refusal_number refusal)
 
-unfoldable pub full_line_of : ℕ → Answer → List ℕ
-full_line_of n x = decimal n ++ full_answer_fields x ++ ascii "\n"
+unfoldable pub line_with : (Block → List ℕ) → ℕ → Answer → List ℕ
+line_with plan n x = decimal n ++ answer_with plan x ++ ascii "\n"
+
+abbrev pub line_of : ℕ → Answer → List ℕ
+line_of = line_with plan_fields
+
+abbrev pub full_line_of : ℕ → Answer → List ℕ
+full_line_of = line_with full_fields
 
 -- ---- how many bytes each may take, with the space in front; a whole line with its line feed
 abbrev pub ok_width : ℕ
@@ -81,6 +80,10 @@ interval_width = kind_width + both_ends_width + profile_width
 
 abbrev pub full_width : ℕ
 full_width = ok_width + double_width + profile_width + interval_width + interval_width
+
+-- what a line has beside an answer: its number and a line feed
+abbrev pub frame_width : ℕ
+frame_width = decimal_width + 1
 
 abbrev pub line_length : ℕ
 line_length = decimal_width + plan_width + 1

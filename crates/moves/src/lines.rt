@@ -1,11 +1,15 @@
-// A line for an answer, by the number of its record.
+// A line for an answer, by the number of its record, in one of two forms.
 
-ghost use Rattle.std.specs.Prelude.{◌≡◌, ◌+◌, ◌≤◌, length};
-ghost use Rattle.profile_lines.specs.Text.{Puts};
-ghost use Rattle.moves.specs.Lines.{line_of, full_line_of, answer_fields, full_answer_fields, plan_width, full_width};
+ghost use Rattle.std.specs.Prelude.{ℕ, ◌≡◌, ◌+◌, ◌-◌, ◌≤◌, List, leb, true, refl};
+ghost use Rattle.arrayvec.specs.ArrayVec.{array_vec_len};
+ghost use Rattle.block.specs.declared.Block.{Block};
+ghost use Rattle.decimals.specs.Decimal.{decimal_width};
+ghost use Rattle.profile_lines.specs.Text.{Appends};
+ghost use Rattle.moves.specs.Lines.{plan_fields, full_fields, answer_with, line_with, frame_width, refusal_width};
 ghost use Rattle.moves.specs.Lines.{line_length, full_line_length};
 
 use crate::fields::{put_full_plan, put_plan, put_refusal};
+use arrayvec::ArrayVec;
 use block::Block;
 use decimals::{DECIMAL_WIDTH, put_decimal};
 use profile_lines::{DIRECTION_WIDTH, DOUBLE_WIDTH, LIMITS_WIDTH, PROFILE_WIDTH, put};
@@ -31,42 +35,90 @@ pub const LINE_LENGTH: usize = DECIMAL_WIDTH + PLAN_WIDTH + 1;
 
 pub const FULL_LINE_LENGTH: usize = DECIMAL_WIDTH + FULL_WIDTH + 1;
 
-fn put_answer(out: &mut [u8], at: usize, x: Result<Block, Refusal>) -> usize
-    requires { at + plan_width ≤ length out.old }
-    ensures { Puts out.old out.new at result (answer_fields x) plan_width }
+// The form of a line: the fields of a plan, and how long the longest line is.
+pub trait Form<const N: usize> {
+    ghost plan: { Block → List ℕ };
+
+    ghost LENGTH: { ℕ };
+
+    const LENGTH: usize;
+
+    fn put_plan(line: &mut ArrayVec<u8, N>, x: Block)
+        requires { array_vec_len line.old + (LENGTH - frame_width) ≤ N }
+        ensures { Appends line.old line.new (plan x) (LENGTH - frame_width) };
+
+    // A refusal is no longer than a plan, and no form's line longer than that of all that a plan holds.
+    ghost refusals_fit: { leb (frame_width + refusal_width) LENGTH ≡ true };
+
+    ghost lines_fit: { leb LENGTH full_line_length ≡ true };
+}
+
+// What document 01 has of a plan.
+pub struct Short;
+
+impl<const N: usize> Form<N> for Short {
+    ghost plan = { plan_fields };
+
+    ghost LENGTH = { line_length };
+
+    const LENGTH: usize = LINE_LENGTH;
+
+    fn put_plan(line: &mut ArrayVec<u8, N>, x: Block) {
+        put_plan(line, x);
+    }
+
+    ghost refusals_fit = { refl };
+
+    ghost lines_fit = { refl };
+}
+
+// All that a plan holds.
+pub struct Full;
+
+impl<const N: usize> Form<N> for Full {
+    ghost plan = { full_fields };
+
+    ghost LENGTH = { full_line_length };
+
+    const LENGTH: usize = FULL_LINE_LENGTH;
+
+    fn put_plan(line: &mut ArrayVec<u8, N>, x: Block) {
+        put_full_plan(line, x);
+    }
+
+    ghost refusals_fit = { refl };
+
+    ghost lines_fit = { refl };
+}
+
+fn put_answer<F: Form<N>, const N: usize>(line: &mut ArrayVec<u8, N>, x: Result<Block, Refusal>)
+    requires { array_vec_len line.old + (F.LENGTH - frame_width) ≤ N }
+    ensures { Appends line.old line.new (answer_with F.plan x) (F.LENGTH - frame_width) }
 {
     match x {
-        Ok(block) => put_plan(out, at, block),
-        Err(refusal) => put_refusal(out, at, u64::from(refusal)),
+        Ok(block) => F::put_plan(line, block),
+        Err(refusal) => put_refusal(line, u64::from(refusal)),
     }
 }
 
-// Stores the line at the start of out, and says how long it is.
-pub fn line(n: u64, x: Result<Block, Refusal>, out: &mut [u8; LINE_LENGTH]) -> usize
-    ensures { Puts out.old out.new 0 result (line_of n x) line_length }
+// Appends the line for the answer to record number n.
+pub fn put_line<F: Form<N>, const N: usize>(line: &mut ArrayVec<u8, N>, n: u64, x: Result<Block, Refusal>)
+    requires { array_vec_len line.old + F.LENGTH ≤ N }
+    ensures { Appends line.old line.new (line_with F.plan n x) F.LENGTH }
 {
-    let number_end = put_decimal(out, 0, n);
-    let answer_end = put_answer(out, number_end, x);
-    put(out, answer_end, b"\n")
+    put_decimal(line, n);
+    put_answer::<F, N>(line, x);
+    put(line, b"\n");
 }
 
-fn put_full_answer(out: &mut [u8], at: usize, x: Result<Block, Refusal>) -> usize
-    requires { at + full_width ≤ length out.old }
-    ensures { Puts out.old out.new at result (full_answer_fields x) full_width }
+// The line for the answer to record number n.
+pub fn line<F: Form<FULL_LINE_LENGTH>>(n: u64, x: Result<Block, Refusal>) -> ArrayVec<u8, FULL_LINE_LENGTH>
+    ensures items { result.items ≡ line_with F.plan n x }
+    ensures within { array_vec_len result ≤ F.LENGTH }
 {
-    match x {
-        Ok(block) => put_full_plan(out, at, block),
-        Err(refusal) => put_refusal(out, at, u64::from(refusal)),
-    }
-}
-
-// The same with everything that a plan holds.
-pub fn full_line(n: u64, x: Result<Block, Refusal>, out: &mut [u8; FULL_LINE_LENGTH]) -> usize
-    ensures { Puts out.old out.new 0 result (full_line_of n x) full_line_length }
-{
-    let number_end = put_decimal(out, 0, n);
-    let answer_end = put_full_answer(out, number_end, x);
-    put(out, answer_end, b"\n")
+    let mut line = ArrayVec::new();
+    put_line::<F, FULL_LINE_LENGTH>(&mut line, n, x);
+    line
 }
 
 // The lengths of the code are those of the definitions.

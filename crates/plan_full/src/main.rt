@@ -3,7 +3,8 @@
 #![tactic(auto)]
 
 use move_stream::answer_records;
+use moves::Full;
 
 fn main(rt: HostRuntime) {
-    answer_records(&rt, true);
+    answer_records::<Full, _>(&rt);
 }

@@ -3,9 +3,10 @@
 #![tactic(auto)]
 
 use move_stream::answer_records;
+use moves::Short;
 
 fn main(rt: HostRuntime) {
     if rt.write_all(b"plan 1\n").is_ok() {
-        answer_records(&rt, false);
+        answer_records::<Short, _>(&rt);
     }
 }

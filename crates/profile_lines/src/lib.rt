@@ -1,15 +1,17 @@
 // A profile as the fields of a line: direction, limits, control signs, then its doubles in the order of the profile's
 // layout, as hexadecimal digits of their bits, a space in front of each.
-// Text goes into a lent slice: each function says which bytes it stores there, and answers the index behind them.
+// A line is a vector of fixed capacity: each function says which bytes it appends, and how many these may be.
 #![tactic(auto)]
 
-ghost use Rattle.std.specs.Prelude.{◌≡◌, ◌+◌, ◌*◌, ◌≤◌, length};
-ghost use Rattle.profile_lines.specs.Text.{Puts};
+ghost use Rattle.std.specs.Prelude.{ℕ, ◌≡◌, ◌+◌, ◌*◌, ◌≤◌, List, length};
+ghost use Rattle.arrayvec.specs.ArrayVec.{array_vec_len};
+ghost use Rattle.profile_lines.specs.Text.{Appends};
 ghost use Rattle.profile_lines.specs.Fields.{direction_name, limits_name, control_signs_name, field, hex};
-ghost use Rattle.profile_lines.specs.Fields.{double_fields, name_fields, profile_fields, hex_width, double_width};
-ghost use Rattle.profile_lines.specs.Fields.{direction_width, limits_width, control_signs_width, names_width};
+ghost use Rattle.profile_lines.specs.Fields.{double_fields, profile_fields, double_width};
+ghost use Rattle.profile_lines.specs.Fields.{direction_width, limits_width, control_signs_width};
 ghost use Rattle.profile_lines.specs.Fields.{profile_width};
 
+use arrayvec::ArrayVec;
 use encoding::hex16;
 use profile::{ControlSigns, Direction, Profile, ReachedLimits};
 use std::num::f64_to_bits_with_nan;
@@ -27,110 +29,119 @@ const NAMES_WIDTH: usize = DIRECTION_WIDTH + LIMITS_WIDTH + CONTROL_SIGNS_WIDTH;
 
 pub const PROFILE_WIDTH: usize = NAMES_WIDTH + DOUBLE_WIDTH * profile::DOUBLES;
 
+// What is written as one of a few names: the field of a name takes at most `width` bytes.
+pub trait Name {
+    ghost name_of: { Self → List ℕ };
+
+    ghost width: { ℕ };
+
+    fn name(self) -> &'static [u8]
+        ensures name_is { result.now ≡ name_of self }
+        ensures within { 1 + length result.now ≤ width };
+}
+
+impl Name for Direction {
+    ghost name_of = { direction_name };
+
+    ghost width = { direction_width };
+
+    fn name(self) -> &'static [u8] {
+        match self {
+            Direction::UP => b"UP",
+            Direction::DOWN => b"DOWN",
+        }
+    }
+}
+
+impl Name for ReachedLimits {
+    ghost name_of = { limits_name };
+
+    ghost width = { limits_width };
+
+    fn name(self) -> &'static [u8] {
+        match self {
+            ReachedLimits::Acc0Acc1Vel => b"Acc0Acc1Vel",
+            ReachedLimits::Vel => b"Vel",
+            ReachedLimits::Acc0 => b"Acc0",
+            ReachedLimits::Acc1 => b"Acc1",
+            ReachedLimits::Acc0Acc1 => b"Acc0Acc1",
+            ReachedLimits::Acc0Vel => b"Acc0Vel",
+            ReachedLimits::Acc1Vel => b"Acc1Vel",
+            ReachedLimits::None => b"None",
+        }
+    }
+}
+
+impl Name for ControlSigns {
+    ghost name_of = { control_signs_name };
+
+    ghost width = { control_signs_width };
+
+    fn name(self) -> &'static [u8] {
+        match self {
+            ControlSigns::UDDU => b"UDDU",
+            ControlSigns::UDUD => b"UDUD",
+        }
+    }
+}
+
 // Text as it stands.
-pub fn put(out: &mut [u8], at: usize, text: &[u8]) -> usize
-    requires { at + length text.now ≤ length out.old }
-    ensures { Puts out.old out.new at result text.now (length text.now) }
+pub fn put<const N: usize>(line: &mut ArrayVec<u8, N>, text: &[u8])
+    requires { array_vec_len line.old + length text.now ≤ N }
+    ensures { Appends line.old line.new text.now (length text.now) }
 {
-    let mut i = 0;
-    while i < text.len() {
-        out[at + i] = text[i];
-        i += 1;
+    let _ = line.try_extend_from_slice(text);
+}
+
+// Text with a space in front.
+pub fn put_field<const N: usize>(line: &mut ArrayVec<u8, N>, text: &[u8])
+    requires { array_vec_len line.old + (1 + length text.now) ≤ N }
+    ensures { Appends line.old line.new (field text.now) (1 + length text.now) }
+{
+    put(line, b" ");
+    put(line, text);
+}
+
+pub fn put_name<T: Name, const N: usize>(line: &mut ArrayVec<u8, N>, value: T)
+    requires { array_vec_len line.old + T.width ≤ N }
+    ensures { Appends line.old line.new (field (T.name_of value)) T.width }
+{
+    put_field(line, value.name());
+}
+
+// A double's digits.
+#[tactic(auto, unfolding(crate::specs::Fields::hex))]
+pub fn hex(x: f64) -> [u8; 16]
+    ensures { result ≡ hex x }
+{
+    hex16(f64_to_bits_with_nan(x))
+}
+
+// A double's digits with a space in front.
+pub fn put_double<const N: usize>(line: &mut ArrayVec<u8, N>, x: f64)
+    requires { array_vec_len line.old + double_width ≤ N }
+    ensures { Appends line.old line.new (field (hex x)) double_width }
+{
+    put_field(line, &hex(x));
+}
+
+pub fn put_doubles<const N: usize>(line: &mut ArrayVec<u8, N>, doubles: &[f64])
+    requires { array_vec_len line.old + double_width * length doubles.now ≤ N }
+    ensures { Appends line.old line.new (double_fields doubles.now) (double_width * length doubles.now) }
+{
+    for &x in doubles {
+        put_double(line, x);
     }
-    at + i
 }
 
-pub fn put_direction(out: &mut [u8], at: usize, direction: Direction) -> usize
-    requires { at + direction_width ≤ length out.old }
-    ensures { Puts out.old out.new at result (field (direction_name direction)) direction_width }
+pub fn put_profile_fields<const N: usize>(line: &mut ArrayVec<u8, N>, q: Profile)
+    requires { array_vec_len line.old + profile_width ≤ N }
+    ensures { Appends line.old line.new (profile_fields q) profile_width }
 {
-    match direction {
-        Direction::UP => put(out, at, b" UP"),
-        Direction::DOWN => put(out, at, b" DOWN"),
-    }
-}
-
-pub fn put_limits(out: &mut [u8], at: usize, limits: ReachedLimits) -> usize
-    requires { at + limits_width ≤ length out.old }
-    ensures { Puts out.old out.new at result (field (limits_name limits)) limits_width }
-{
-    match limits {
-        ReachedLimits::Acc0Acc1Vel => put(out, at, b" Acc0Acc1Vel"),
-        ReachedLimits::Vel => put(out, at, b" Vel"),
-        ReachedLimits::Acc0 => put(out, at, b" Acc0"),
-        ReachedLimits::Acc1 => put(out, at, b" Acc1"),
-        ReachedLimits::Acc0Acc1 => put(out, at, b" Acc0Acc1"),
-        ReachedLimits::Acc0Vel => put(out, at, b" Acc0Vel"),
-        ReachedLimits::Acc1Vel => put(out, at, b" Acc1Vel"),
-        ReachedLimits::None => put(out, at, b" None"),
-    }
-}
-
-fn put_control_signs(out: &mut [u8], at: usize, control_signs: ControlSigns) -> usize
-    requires { at + control_signs_width ≤ length out.old }
-    ensures { Puts out.old out.new at result (field (control_signs_name control_signs)) control_signs_width }
-{
-    match control_signs {
-        ControlSigns::UDDU => put(out, at, b" UDDU"),
-        ControlSigns::UDUD => put(out, at, b" UDUD"),
-    }
-}
-
-// A double's digits, with no space in front.
-pub fn put_hex(out: &mut [u8], at: usize, x: f64) -> usize
-    requires { at + hex_width ≤ length out.old }
-    ensures { Puts out.old out.new at result (hex x) hex_width }
-{
-    let digits = hex16(f64_to_bits_with_nan(x));
-    put(out, at, &digits)
-}
-
-pub fn put_double(out: &mut [u8], at: usize, x: f64) -> usize
-    requires { at + double_width ≤ length out.old }
-    ensures { Puts out.old out.new at result (field (hex x)) double_width }
-{
-    let start = put(out, at, b" ");
-    put_hex(out, start, x)
-}
-
-pub fn put_doubles(out: &mut [u8], at: usize, x: &[f64]) -> usize
-    requires { at + double_width * length x.now ≤ length out.old }
-    ensures { Puts out.old out.new at result (double_fields x.now) (double_width * length x.now) }
-{
-    let mut end = at;
-    let mut i = 0;
-    while i < x.len() {
-        end = put_double(out, end, x[i]);
-        i += 1;
-    }
-    end
-}
-
-fn put_names(
-    out: &mut [u8],
-    at: usize,
-    direction: Direction,
-    limits: ReachedLimits,
-    control_signs: ControlSigns,
-) -> usize
-    requires { at + names_width ≤ length out.old }
-    ensures { Puts out.old out.new at result (name_fields direction limits control_signs) names_width }
-{
-    let direction_end = put_direction(out, at, direction);
-    let limits_end = put_limits(out, direction_end, limits);
-    put_control_signs(out, limits_end, control_signs)
-}
-
-pub fn put_profile_fields(out: &mut [u8], at: usize, q: Profile) -> usize
-    requires { at + profile_width ≤ length out.old }
-    ensures { Puts out.old out.new at result (profile_fields q) profile_width }
-{
-    let direction = q.direction;
-    let limits = q.limits;
-    let control_signs = q.control_signs;
-    let doubles = q.doubles();
-    let names_end = put_names(out, at, direction, limits, control_signs);
-    put_doubles(out, names_end, &doubles)
+    put_name(line, q.direction);
+    put_name(line, q.limits);
+    put_name(line, q.control_signs);
+    put_doubles(line, &q.doubles());
 }
 
 // The widths of the code are those of the definitions.

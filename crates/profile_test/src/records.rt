@@ -1,13 +1,14 @@
 // What the bytes of a record mean.
 
 ghost use Rattle.std.specs.Prelude.{◌≡◌};
-ghost use Rattle.profile_test.specs.Records.{limits_of, control_signs_of, start_of, target_of, profile_of, bounds_of};
+ghost use Rattle.profile_test.specs.Records.{limits_of, control_signs_of, profile_of, bounds_of};
 ghost use Rattle.profile_test.specs.Records.{checked_of};
 
 use encoding::{double_at, doubles_at};
 use profile::{ControlSigns, Limits, Profile, ReachedLimits, Start, Target};
 use profile_check::check;
 
+#[tactic(auto, unfolding(crate::specs::Records::limits_of))]
 fn limits_of(n: u8) -> ReachedLimits
     ensures { result ≡ limits_of n }
 {
@@ -23,6 +24,7 @@ fn limits_of(n: u8) -> ReachedLimits
     }
 }
 
+#[tactic(auto, unfolding(crate::specs::Records::control_signs_of))]
 fn control_signs_of(n: u8) -> ControlSigns
     ensures { result ≡ control_signs_of n }
 {
@@ -32,30 +34,18 @@ fn control_signs_of(n: u8) -> ControlSigns
     }
 }
 
-fn start_of(bytes: &[u8; 147]) -> Start
-    ensures { result ≡ start_of bytes.now }
-{
-    let [p0, v0, a0]: [f64; 3] = doubles_at(bytes, 0);
-    Start { p0, v0, a0 }
-}
-
-fn target_of(bytes: &[u8; 147]) -> Target
-    ensures { result ≡ target_of bytes.now }
-{
-    let [pf, vf, af]: [f64; 3] = doubles_at(bytes, 24);
-    Target { pf, vf, af }
-}
-
 // An empty profile with the record's boundary and times.
 fn profile_of(bytes: &[u8; 147]) -> Profile
     ensures { result ≡ profile_of bytes.now }
 {
-    let mut q = Profile::empty().with_boundary(start_of(bytes), target_of(bytes));
+    let [p0, v0, a0, pf, vf, af]: [f64; 6] = doubles_at(bytes, 0);
+    let mut q = Profile::empty().with_boundary(Start { p0, v0, a0 }, Target { pf, vf, af });
     q.t = doubles_at(bytes, 48);
     q
 }
 
 // The record's limits. A check reads no j_max.
+#[tactic(auto, unfolding(crate::specs::Records::bounds_of, encoding::specs::Encoding::doubles_at))]
 fn bounds_of(bytes: &[u8; 147]) -> Limits
     ensures { result ≡ bounds_of bytes.now }
 {
@@ -70,6 +60,7 @@ fn bounds_of(bytes: &[u8; 147]) -> Limits
 }
 
 // What `check` answers.
+#[tactic(auto, unfolding(crate::specs::Records::checked_of))]
 pub fn checked_of(bytes: &[u8; 147]) -> Option<Profile>
     ensures { result ≡ checked_of bytes.now }
 {

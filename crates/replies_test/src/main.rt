@@ -3,65 +3,68 @@
 // has one.
 #![tactic(auto)]
 
-ghost use Rattle.std.specs.Prelude.{◌≡◌, ◌+◌, ◌≤◌, length};
-ghost use Rattle.io.specs.Counts.{IsPrefixLen};
-ghost use Rattle.profile_lines.specs.Text.{Puts};
+ghost use Rattle.std.specs.Prelude.{◌≡◌, ◌+◌, ◌≤◌, ◌∷◌, length};
+ghost use Rattle.arrayvec.specs.ArrayVec.{array_vec_len};
+ghost use Rattle.profile_lines.specs.Text.{Appends};
 ghost use Rattle.replies_test.specs.Lines.{word_of, rest_of, answer_of, word_width, answer_width};
 
-use moves::{LINE_LENGTH, reply_to};
-use profile_lines::put;
+use answering::{Answers, answer_records, read_array, read_bytes};
+use arrayvec::ArrayVec;
+use moves::{LINE_LENGTH, Short, reply_to};
+use profile_lines::{put, put_field};
+use std::io::Read;
 
 // The word, a space and the reply's line.
 const ANSWER_WIDTH: usize = 7 + 1 + LINE_LENGTH;
 
-fn put_word(out: &mut [u8], at: usize, goes_on: bool) -> usize
-    requires { at + word_width ≤ length out.old }
-    ensures { Puts out.old out.new at result (word_of goes_on) word_width }
+#[tactic(auto, unfolding(crate::specs::Lines::word_of))]
+fn put_word<const N: usize>(line: &mut ArrayVec<u8, N>, goes_on: bool)
+    requires { array_vec_len line.old + word_width ≤ N }
+    ensures { Appends line.old line.new (word_of goes_on) word_width }
 {
     if goes_on {
-        return put(out, at, b"goes on");
+        put(line, b"goes on");
+    } else {
+        put(line, b"ends");
     }
-    put(out, at, b"ends")
 }
 
-fn put_rest(out: &mut [u8], at: usize, reply: &[u8]) -> usize
-    requires { at + (length reply.now + 1) ≤ length out.old }
-    ensures { Puts out.old out.new at result (rest_of reply.now) (length reply.now + 1) }
+#[tactic(auto, unfolding(crate::specs::Lines::rest_of))]
+fn put_rest<const N: usize>(line: &mut ArrayVec<u8, N>, reply: &[u8])
+    requires { array_vec_len line.old + (length reply.now + 1) ≤ N }
+    ensures { Appends line.old line.new (rest_of reply.now) (length reply.now + 1) }
 {
-    if reply.len() == 0 {
-        return put(out, at, b"\n");
+    if reply.is_empty() {
+        put(line, b"\n");
+    } else {
+        put_field(line, reply);
     }
-    let start = put(out, at, b" ");
-    put(out, start, reply)
 }
 
-// The line for what is left of an input, at the start of out, and how long it is.
-fn line(bytes: &[u8], out: &mut [u8; ANSWER_WIDTH]) -> usize
-    ensures puts { Puts out.old out.new 0 result (answer_of bytes.now) answer_width }
-    ensures prefix_len { IsPrefixLen result out.new }
-{
-    let mut text = [0u8; LINE_LENGTH];
-    let reply = reply_to(1, bytes, &mut text);
-    let length = reply.length;
-    let word_end = put_word(out, 0, reply.goes_on);
-    put_rest(out, word_end, &text[..length])
-}
+// What is left of an input.
+struct Left;
 
-// Answers one record, and says whether there was one and its line could be written.
-fn answer() -> bool {
-    let mut size = [0u8; 1];
-    if io::read_full(0, &mut size) < 1 {
-        return false;
+impl Answers<ANSWER_WIDTH> for Left {
+    type Record = ArrayVec<u8, 255>;
+
+    ghost bytes = { λ b. length b.items ∷ b.items };
+
+    ghost answers = { λ b text. text ≡ answer_of b.items };
+
+    fn read<R: Read>(reader: &mut R) -> Option<ArrayVec<u8, 255>> {
+        let [count]: [u8; 1] = read_array(reader)?;
+        read_bytes(reader, usize::from(count))
     }
-    let wanted = usize::from(size[0]);
-    let mut bytes = [0u8; 255];
-    let count = io::read_full(0, &mut bytes[..wanted]);
-    if count < wanted {
-        return false;
+
+    #[tactic(auto, unfolding(crate::specs::Lines::answer_of))]
+    fn line(of: ArrayVec<u8, 255>) -> ArrayVec<u8, ANSWER_WIDTH> {
+        let mut reply = ArrayVec::new();
+        let goes_on = reply_to::<Short>(1, &of, &mut reply);
+        let mut line = ArrayVec::new();
+        put_word(&mut line, goes_on);
+        put_rest(&mut line, &reply);
+        line
     }
-    let mut text = [0u8; ANSWER_WIDTH];
-    let length = line(&bytes[..wanted], &mut text);
-    io::write_all(1, &text[..length])
 }
 
 // The width of the code is that of the definitions.
@@ -69,10 +72,6 @@ fn constants()
     ensures { ANSWER_WIDTH ≡ answer_width }
 {}
 
-// The count only shows that the loop ends: no input is as long.
-fn main() {
-    let mut turns = u64::MAX;
-    while turns > 0 && answer() {
-        turns -= 1;
-    }
+fn main(rt: HostRuntime) {
+    answer_records::<Left, _, _>(&rt);
 }

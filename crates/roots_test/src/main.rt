@@ -3,16 +3,19 @@
 // `quartics` has them. oracle/tools/make_stored.py makes the stored input and output.
 #![tactic(auto)]
 
-ghost use Rattle.std.specs.Prelude.{◌≡◌, ◌+◌, ◌≤◌, length, take};
-ghost use Rattle.io.specs.Counts.{IsPrefixLen};
-ghost use Rattle.profile_lines.specs.Text.{Puts};
+ghost use Rattle.std.specs.Prelude.{◌≡◌, ◌+◌, ◌≤◌, take};
+ghost use Rattle.arrayvec.specs.ArrayVec.{array_vec_len};
+ghost use Rattle.profile_lines.specs.Text.{Appends};
 ghost use Rattle.profile_lines.specs.Fields.{double_fields};
 ghost use Rattle.roots_test.specs.Lines.{roots_of, line_of};
 
+use answering::{Answers, answer_records, read_array};
+use arrayvec::ArrayVec;
 use decimals::put_decimal;
 use encoding::doubles_at;
 use profile_lines::{put, put_doubles};
 use roots::{Roots, solve_quart_monic_coeffs};
+use std::io::Read;
 
 // The roots of the record's quartic, in reading order.
 fn roots_of(bytes: &[u8; 32]) -> Roots
@@ -23,45 +26,37 @@ fn roots_of(bytes: &[u8; 32]) -> Roots
 }
 
 // The first `count` of the values.
-fn put_values(out: &mut [u8], at: usize, values: [f64; 4], count: usize) -> usize
-    requires { at + 68 ≤ length out.old }
-    ensures { Puts out.old out.new at result (double_fields (take count values)) 68 }
+fn put_values(line: &mut ArrayVec<u8, 89>, values: [f64; 4], count: usize)
+    requires { array_vec_len line.old + 68 ≤ 89 }
+    ensures { Appends line.old line.new (double_fields (take count values)) 68 }
 {
-    if count < 4 {
-        put_doubles(out, at, &values[..count])
-    } else {
-        put_doubles(out, at, &values)
+    put_doubles(line, &values[..count.min(4)]);
+}
+
+struct Quartics;
+
+impl Answers<89> for Quartics {
+    type Record = [u8; 32];
+
+    ghost bytes = { λ b. b };
+
+    ghost answers = { λ b text. text ≡ line_of b };
+
+    fn read<R: Read>(reader: &mut R) -> Option<[u8; 32]> {
+        read_array(reader)
+    }
+
+    #[tactic(auto, unfolding(crate::specs::Lines::answer_of))]
+    fn line(of: [u8; 32]) -> ArrayVec<u8, 89> {
+        let list = roots_of(&of);
+        let mut line = ArrayVec::new();
+        put_decimal(&mut line, list.count as u64);
+        put_values(&mut line, list.values, list.count);
+        put(&mut line, b"\n");
+        line
     }
 }
 
-// The line of a record, at the start of out, and how long it is.
-fn line(bytes: &[u8; 32], out: &mut [u8; 89]) -> usize
-    ensures puts { Puts out.old out.new 0 result (line_of bytes.now) 89 }
-    ensures prefix_len { IsPrefixLen result out.new }
-{
-    let list = roots_of(bytes);
-    let count = list.count;
-    let values = list.values;
-    let count_end = put_decimal(out, 0, count as u64);
-    let values_end = put_values(out, count_end, values, count);
-    put(out, values_end, b"\n")
-}
-
-// Answers one record, and says whether there was one and its line could be written.
-fn answer() -> bool {
-    let mut bytes = [0u8; 32];
-    if io::read_full(0, &mut bytes) < 32 {
-        return false;
-    }
-    let mut text = [0u8; 89];
-    let length = line(&bytes, &mut text);
-    io::write_all(1, &text[..length])
-}
-
-// The count only shows that the loop ends: no input is as long.
-fn main() {
-    let mut turns = u64::MAX;
-    while turns > 0 && answer() {
-        turns -= 1;
-    }
+fn main(rt: HostRuntime) {
+    answer_records::<Quartics, _, _>(&rt);
 }

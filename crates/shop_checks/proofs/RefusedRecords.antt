@@ -6,12 +6,12 @@ use Rattle.planner.specs.Answers.{finite_start, finite_move, answer_of}
 use Rattle.decimals.specs.Decimal.{decimal}
 use Rattle.planner.specs.Layout.{move_of}
 use Rattle.moves.specs.Records.{record_move, is_malformed, record_of}
-use Rattle.moves.specs.Lines.{refusal_fields, answer_fields, line_of}
+use Rattle.moves.specs.Lines.{refusal_fields, answer_with, line_with}
 use Rattle.shop_checks.specs.Records.{record_bytes}
 use Rattle.shop_checks.specs.WorkedMoves.{RefusedRecords}
 
 pub refused_records : RefusedRecords
-unfolding record_bytes record_of is_malformed record_move move_of doubles_at line_of answer_fields refusal_fields decimal answer_of
+unfolding record_bytes record_of is_malformed record_move move_of doubles_at line_with answer_with refusal_fields decimal answer_of
     finite_move finite_start to_bits of_bits neg
 refused_records =
     record {

@@ -57,7 +57,7 @@ use Rattle.planner.specs.declared.Move.{Move}
 use Rattle.decimals.specs.Decimal.{decimal}
 use Rattle.planner.specs.Layout.{move_of}
 use Rattle.moves.specs.Records.{record_move, is_malformed, record_of}
-use Rattle.moves.specs.Lines.{stretch_fields, plan_fields, refusal_fields, answer_fields, line_of}
+use Rattle.moves.specs.Lines.{stretch_fields, plan_fields, refusal_fields, answer_with, line_with, line_of}
 use Rattle.moves.specs.Replies.{reply_of}
 use Rattle.std.specs.Prelude.{Some, Ok}
 use Rattle.shop_checks.specs.Records.{record_bytes}
@@ -69,7 +69,7 @@ by_move : (n : ℕ) (x : Move) {line : List ℕ} → record_of (record_bytes x) 
 by_move n x e h = ap (reply_of line_of n) e ∙ h
 
 pub shop_checks : ShopChecks
-unfolding record_bytes record_of is_malformed record_move move_of doubles_at line_of answer_fields plan_fields refusal_fields
+unfolding record_bytes record_of is_malformed record_move move_of doubles_at line_with answer_with plan_fields refusal_fields
     stretch_fields decimal double_fields hex hex_digit answer_of finite_move finite_start finite_target finite_limits wrong_sign
     wrong_duration with_boundary with_phases empty_profile get_profile_answer get_profile get_profile_by has_zero_limit try_families
     first_search ends_at_rest rests_at_target points_up towards_target resting two_step first_of unless_found run bind in_turn

@@ -1,12 +1,9 @@
--- `profile_lines::put_doubles` meets its contract: the first i doubles are stored. Assumes nothing.
-use Prim.Native.Nat.{◌-◌, ◌*◌, ◌≤◌}
-use lib.ListN.{length, take}
-use Rattle.profile_lines.specs.Text.{Puts}
+-- `profile_lines::put_doubles` meets its contract: the first of the doubles are appended. Assumes nothing.
+use Rattle.std.proofs.Common.{◌*◌, take}
+use Rattle.profile_lines.specs.Text.{Appends}
 use Rattle.profile_lines.specs.Fields.{double_fields, double_width}
 use Rattle.profile_lines.proofs.put_doubles.Given as goal
 
-abbrev pub invariant-loop-i : goal.invariant-loop-i
-invariant-loop-i l = (l.i ≤ length l.x) × Puts l.initial.out l.out l.at l.end (double_fields (take l.i l.x)) (double_width * l.i)
-
-abbrev pub decreases-loop-i : goal.decreases-loop-i
-decreases-loop-i l = length l.x - l.i
+abbrev pub invariant-loop-x : goal.invariant-loop-x
+invariant-loop-x g l =
+    Appends l.initial.line l.line (double_fields (take l.x-index l.doubles)) (double_width * l.x-index)

@@ -1,37 +1,18 @@
--- `block_test::lines::put_blockings` meets its contract. Assumes nothing.
-use native.Mathlib.Omega.{arith}
-use Rattle.profile_lines.proofs.PutLaws.{then}
-use Rattle.block_test.specs.Lines.{blocking_fields}
+-- `block_test::lines::put_blockings` meets its contract: the first of the answers are appended. Assumes nothing.
+use Rattle.std.proofs.Common.{ℕ, List, arith, Float}
+use Rattle.profile_lines.specs.Fields.{field}
+use Rattle.profile_lines.proofs.PutLaws.{nothing, then, within, one_more_text}
+use Rattle.block.specs.Blocks.{blocking_of}
+use Rattle.block_test.specs.Lines.{blocking_name}
 use Rattle.block_test.proofs.lines.put_blockings.Goals as goal
 
--- said: what is said of a time is known; put: it is written
-pub put_blocking-requires : goal.put_blocking-requires
-put_blocking-requires c =
-    let p = then
-    (then c.put_blocking-end0.ensures c.put_blocking-end1.ensures)
-    c.put_blocking-end2.ensures in omega (
-      arith,
-      c.requires,
-      p.behind,
-      p.within,
-      p.same,
-    )
+pub loop-t-init : goal.loop-t-init
+loop-t-init c = nothing
 
-pub returns : goal.returns
-unfolding blocking_fields
-returns c =
-    rw (
-      c.is_blocked.ensures.answer,
-      c.is_blocked-2.ensures.answer,
-      c.is_blocked-3.ensures.answer,
-      c.is_blocked-4.ensures.answer,
-      c.double_at.ensures,
-      c.double_at-2.ensures,
-      c.double_at-3.ensures,
-      c.double_at-4.ensures,
-    ) at
-    (then
-    (then
-    (then c.put_blocking-end0.ensures c.put_blocking-end1.ensures)
-    c.put_blocking-end2.ensures)
-    c.put_blocking.ensures)
+pub loop-t-preserved : goal.loop-t-preserved
+loop-t-preserved c =
+    let l = c.loop-t in
+    let text : Float → List ℕ = λ (t : Float). field (blocking_name (blocking_of c.args.x t)) in
+    within (omega arith)
+    (rw (one_more_text text c.args.times.now l.t-index _ (omega arith)) at
+    (then l.invariant (rw c.is_blocked.ensures.answer at c.put_blocking.ensures)))

@@ -1,33 +1,31 @@
 -- `buffer_test::lines::is_unchanged` meets its contract: what is left of the buffer has the answer for the whole.
 -- Assumes nothing.
-use Prim.Native.Nat.{◌<◌}
-use mathlib.Core.Path.{refl, sym, ◌∙◌}
-use native.Mathlib.Omega.{arith}
-use lib.ListN.{length, drop_of_length-le}
+use Rattle.std.proofs.Common.{◌∙◌, sym, arith}
+use Rattle.std.proofs.Math.ListN.{drop_of_length-le}
+use Rattle.std.proofs.lemmas.Bool.{not-true, not-false}
+use Rattle.std.specs.Float.Ieee.{eq, ne}
+use Rattle.doubles.specs.Operators.{◌==ᶠ◌, at}
+use Rattle.buffer_test.specs.Records.{minus1ᶠ}
 use Rattle.buffer_test.specs.Lines.{is_unchanged}
 use Rattle.buffer_test.proofs.BufferLaws.{one_more}
 use Rattle.buffer_test.proofs.lines.is_unchanged.Goals as goal
 
-pub loop-i-preserved : goal.loop-i-preserved
-loop-i-preserved c =
-    let l = c.loop-i in
+pub loop-x-preserved : goal.loop-x-preserved
+unfolding ne eq
+loop-x-preserved c =
+    let l = c.loop-x in
     let b = c.args.buffer.now in
-    let h : l.i < length b = omega arith in
-    (omega arith, l.invariant.1 ∙ one_more b l.i h ∙ rw c.if-buffer-i.true)
+    l.invariant ∙ one_more b l.x-index (omega arith) ∙ rw (not-false (at b l.x-index ==ᶠ minus1ᶠ) c.if-x.false)
 
-pub returns-else-buffer-i : goal.returns-else-buffer-i
-returns-else-buffer-i c =
-    let l = c.loop-i in
+pub returns-then-x : goal.returns-then-x
+unfolding ne eq
+returns-then-x c =
+    let l = c.loop-x in
     let b = c.args.buffer.now in
-    let h : l.i < length b = omega arith in
-    sym (l.invariant.1 ∙ one_more b l.i h ∙ rw c.if-buffer-i.false)
+    sym (l.invariant ∙ one_more b l.x-index (omega arith) ∙ rw (not-true (at b l.x-index ==ᶠ minus1ᶠ) c.if-x.true))
 
 pub returns : goal.returns
 unfolding is_unchanged
 returns c =
-    let l = c.loop-i in
-    let b = c.args.buffer.now in
-    sym (l.invariant.1 ∙ rw (drop_of_length-le b {i = l.i} (omega arith)))
-
-pub loop-i-init : goal.loop-i-init
-loop-i-init c = (omega arith, refl)
+    let l = c.loop-x in
+    sym (l.invariant ∙ rw (drop_of_length-le c.args.buffer.now {i = l.x-index} (omega arith)))

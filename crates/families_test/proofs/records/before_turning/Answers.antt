@@ -5,8 +5,8 @@ use Rattle.families_test.proofs.records.before_turning.Goals as goal
 
 pub returns-then-k : goal.returns-then-k
 unfolding towards_target points_up
-returns-then-k c = rw c.if-k.true
+returns-then-k c = rw (c.in-Resting.is, c.if-k.true)
 
-pub returns : goal.returns
+pub returns-else-k : goal.returns-else-k
 unfolding towards_target points_up
-returns c = rw (c.if-k.false, c.swapped.ensures) (swapped_twice _)
+returns-else-k c = rw (c.in-Resting.is, c.if-k.false, c.swapped.ensures) (swapped_twice _)

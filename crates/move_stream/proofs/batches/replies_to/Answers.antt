@@ -1,92 +1,47 @@
 -- `move_stream::batches::replies_to` meets its contract: the first `count` records are answered. Assumes nothing.
-use Prim.Native.Nat.{ℕ, ◌*◌, ◌-◌}
-use mathlib.Core.Path.{◌≡◌, refl, sym, ◌∙◌}
-use mathlib.Core.Bool.{Bool, true, ◌&&◌}
-use mathlib.Core.List.{List}
-use lib.Dec.{leb, ltb}
-use Rattle.profile_lines.specs.Text.{Puts}
-use native.Mathlib.Omega.{arith}
-use lib.ListN.{length as len}
+use Rattle.std.proofs.Common.{◌≡◌, ◌<◌, ◌-◌, ◌/◌, refl, sym, ap, ◌∙◌, arith, append-nil, length, length-append}
 use borrow.Author.Count.{below_more}
+use Rattle.arrayvec.specs.ArrayVec.{array_vec_len}
+use Rattle.moves.specs.Lines.{line_with}
 use Rattle.moves.specs.Records.{record_length}
-use Rattle.move_stream.specs.Batches.{form_of, width_of, lines_of, go_on, Ready}
-use Rattle.profile_lines.proofs.PutLaws.{nothing, within}
-use Rattle.move_stream.proofs.BatchLaws.{tested, untested, one_line_more, goes_on_more}
+use Rattle.move_stream.specs.Batches.{lines_of, go_on, Ready}
+use Rattle.move_stream.proofs.BatchLaws.{not_false, chunk_is, goes_on_more, one_line_more}
 use Rattle.move_stream.proofs.batches.replies_to.Goals as goal
 
--- the test says that the next record can be answered
-told : (full : Bool) (n : ℕ) (bytes out now : List ℕ) (goes_on : Bool) (count at width : ℕ)
-    → (goes_on && leb record_length (len bytes - count * record_length) && leb width (len now - at)
-    && ltb count (0xffff_ffff_ffff_ffff - n)) ≡ true
-    → goes_on ≡ go_on bytes count
-    → Puts out now 0 at (lines_of (form_of full) n bytes count) (len out)
-    → width ≡ width_of full
-    → Ready full n bytes (len out) count
-told full n bytes out now goes_on count at width test follows puts w =
-    let t = tested goes_on record_length (len bytes - count * record_length) width (len now - at) count
-    (0xffff_ffff_ffff_ffff - n) test in
-    record {
-      follows = sym follows ∙ t.0;
-      whole = omega (arith, t.1);
-      fits = omega (arith, t.2, w, puts.behind, puts.same);
-      numbered = omega (arith, t.3);
-    }
-
-pub loop-goes_on-init : goal.loop-goes_on-init
+pub loop-record-init : goal.loop-record-init
 unfolding lines_of go_on
-loop-goes_on-init c = (
-  omega arith,
-  omega arith,
-  within (omega arith) nothing,
-  refl,
-  λ k below. absurd (let none : ⊥ = omega arith in none),
-)
-
-pub put_reply-reply-requires : goal.put_reply-reply-requires
-put_reply-reply-requires c = let t = told _ _ _ _ _ _ _ _ _ c.loop-goes_on-test.true c.loop-goes_on.invariant.3 c.loop-goes_on.invariant.2 c.line_length-width.ensures in omega (arith, t.fits)
-
-pub overflow_add-count : goal.overflow_add-count
-overflow_add-count c = let t = told _ _ _ _ _ _ _ _ _ c.loop-goes_on-test.true c.loop-goes_on.invariant.3 c.loop-goes_on.invariant.2 c.line_length-width.ensures in omega arith
-
-pub loop-goes_on-smaller : goal.loop-goes_on-smaller
-loop-goes_on-smaller c = let t = told _ _ _ _ _ _ _ _ _ c.loop-goes_on-test.true c.loop-goes_on.invariant.3 c.loop-goes_on.invariant.2 c.line_length-width.ensures in omega arith
-
-pub loop-goes_on-preserved : goal.loop-goes_on-preserved
-loop-goes_on-preserved c =
-    let l = c.loop-goes_on in
-    let s = c.args in
-    let t = told _ _ _ _ _ _ _ _ _ c.loop-goes_on-test.true c.loop-goes_on.invariant.3 c.loop-goes_on.invariant.2 c.line_length-width.ensures in
-    let put = c.put_reply-reply.ensures in (
-      omega arith,
-      omega arith,
-      one_line_more (form_of s.full) s.n s.bytes.now l.count l.invariant.2 put.puts (omega (arith, t.fits)),
-      put.goes_on_value ∙ goes_on_more (form_of s.full) s.n s.bytes.now l.count t.follows,
-      below_more (Ready s.full s.n s.bytes.now (len s.out.now)) l.count l.invariant.4 t,
-    )
-
-pub returns : goal.returns
-returns c =
-    let l = c.loop-goes_on in
-    let width = c.line_length-width in
-    let s = c.args in
+loop-record-init g c =
     record {
-      ready = l.invariant.4;
-      ends = λ t.
-          untested l.goes_on record_length (len s.bytes.now - l.count * record_length)
-          width.result (len l.out - l.length) l.count (0xffff_ffff_ffff_ffff - s.n) c.loop-goes_on-test.false
-          (l.invariant.3 ∙ t.follows) (omega (arith, t.whole))
-          (omega (arith, t.fits, width.ensures, l.invariant.2.behind, l.invariant.2.same)) (omega (arith, t.numbered));
-      used = l.invariant.0;
-      next = l.invariant.1;
-      puts = l.invariant.2;
-      follows = l.invariant.3;
+      count = refl;
+      next = omega arith;
+      appends = sym (append-nil c.args.lines.now.items);
+      follows = refl;
+      ready = λ k below. absurd (omega arith);
     }
 
-pub overflow_add-end : goal.overflow_add-end
-overflow_add-end c = let t = told _ _ _ _ _ _ _ _ _ c.loop-goes_on-test.true c.loop-goes_on.invariant.3 c.loop-goes_on.invariant.2 c.line_length-width.ensures in omega arith
-
-pub overflow_add-n : goal.overflow_add-n
-overflow_add-n c = let t = told _ _ _ _ _ _ _ _ _ c.loop-goes_on-test.true c.loop-goes_on.invariant.3 c.loop-goes_on.invariant.2 c.line_length-width.ensures in omega arith
-
-pub slice_bounds-put_reply-end : goal.slice_bounds-put_reply-end
-slice_bounds-put_reply-end c = let t = told _ _ _ _ _ _ _ _ _ c.loop-goes_on-test.true c.loop-goes_on.invariant.3 c.loop-goes_on.invariant.2 c.line_length-width.ensures in omega arith
+pub loop-record-preserved : goal.loop-record-preserved
+loop-record-preserved g c =
+    let l = c.loop-record in
+    let v = l.invariant in
+    let k = l.batch.count in
+    let b = c.args.bytes.now in
+    let line = line_with g.F.Form.plan in
+    let within : k < length b / record_length = omega (arith, c.as_chunks.ensures.front_len) in
+    let lines = simp length-append at (ap length v.appends) in
+    let room = g.row.N - array_vec_len c.args.lines.now in
+    let ready : Ready line g.F.Form.LENGTH c.args.n b room k = record {
+      follows = sym v.follows ∙ not_false _ c.if-not-batch.false;
+      whole = omega arith;
+      fits = omega (arith, lines, c.LENGTH.ensures, c.remaining_capacity.ensures);
+      numbered = omega arith;
+    } in
+    let chunk = chunk_is b (length b / record_length) k within in
+    let place : l.record-index ≡ k = sym v.count in
+    let reply = c.put_reply.ensures in
+    record {
+      count = omega arith;
+      next = omega arith;
+      appends = one_line_more b k line c.args.n c.args.lines.now.items v.appends (rw (c.as_chunks.ensures.front, place, chunk) at reply.appends.items);
+      follows = (rw (c.as_chunks.ensures.front, place, chunk) at reply.goes_on_value) ∙ goes_on_more b k ready.follows;
+      ready = below_more (Ready line g.F.Form.LENGTH c.args.n b room) k v.ready ready;
+    }

@@ -3,5 +3,5 @@ use Rattle.moves.proofs.CountLaws.{count_field}
 use Rattle.moves.proofs.fields.put_count.Goals as goal
 
 pub returns : goal.returns
-returns c =
-    rw (c.count.ensures.0, c.count-2.ensures.0, count_field) at c.put.ensures
+returns g c =
+    rw (c.count.ensures.0, c.count-2.ensures.0, count_field) at c.put_field.ensures

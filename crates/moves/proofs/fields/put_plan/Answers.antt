@@ -1,14 +1,14 @@
 -- `moves::fields::put_plan` meets its contract. Assumes nothing.
-use Rattle.moves.specs.Lines.{plan_fields}
 use Rattle.profile_lines.proofs.PutLaws.{then}
+use Rattle.moves.specs.Lines.{plan_fields}
 use Rattle.moves.proofs.fields.put_plan.Goals as goal
 
 pub returns : goal.returns
 unfolding plan_fields
-returns c =
+returns g c =
     then (then (then (then
-    c.put-ok_end.ensures
-    c.put_double-duration_end.ensures)
-    c.put_direction-direction_end.ensures)
-    c.put_limits-limits_end.ensures)
+    c.put_field.ensures
+    c.put_double.ensures)
+    c.put_name.ensures)
+    c.put_name-2.ensures)
     c.put_stretches.ensures

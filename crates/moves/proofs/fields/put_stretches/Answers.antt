@@ -1,12 +1,8 @@
 -- `moves::fields::put_stretches` meets its contract. Assumes nothing.
-use Rattle.moves.specs.Lines.{stretch_fields}
 use Rattle.profile_lines.proofs.PutLaws.{then}
+use Rattle.moves.specs.Lines.{stretch_fields}
 use Rattle.moves.proofs.fields.put_stretches.Goals as goal
 
 pub returns : goal.returns
 unfolding stretch_fields
-returns c =
-    then (then
-    c.put_count-count_end.ensures
-    c.put_ends-a_end.ensures)
-    c.put_ends.ensures
+returns g c = then (then c.put_count.ensures c.put_ends.ensures) c.put_ends-2.ensures

@@ -1,2 +1,0 @@
--- The laws of `arrival_test`.
-pub mod ReadLaws
