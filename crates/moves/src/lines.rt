@@ -102,7 +102,11 @@ fn put_answer<F: Form<N>, const N: usize>(line: &mut ArrayVec<u8, N>, x: Result<
 }
 
 // Appends the line for the answer to record number n.
-pub fn put_line<F: Form<N>, const N: usize>(line: &mut ArrayVec<u8, N>, n: u64, x: Result<Block, Refusal>)
+pub fn put_line<F: Form<N>, const N: usize>(
+    line: &mut ArrayVec<u8, N>,
+    n: u64,
+    x: Result<Block, Refusal>,
+)
     requires { array_vec_len line.old + F.LENGTH ≤ N }
     ensures { Appends line.old line.new (line_with F.plan n x) F.LENGTH }
 {
@@ -112,7 +116,10 @@ pub fn put_line<F: Form<N>, const N: usize>(line: &mut ArrayVec<u8, N>, n: u64, 
 }
 
 // The line for the answer to record number n.
-pub fn line<F: Form<FULL_LINE_LENGTH>>(n: u64, x: Result<Block, Refusal>) -> ArrayVec<u8, FULL_LINE_LENGTH>
+pub fn line<F: Form<FULL_LINE_LENGTH>>(
+    n: u64,
+    x: Result<Block, Refusal>,
+) -> ArrayVec<u8, FULL_LINE_LENGTH>
     ensures items { result.items ≡ line_with F.plan n x }
     ensures within { array_vec_len result ≤ F.LENGTH }
 {
