@@ -13,7 +13,7 @@ from pathlib import Path
 CRATES = Path(__file__).resolve().parent.parent / "crates"
 CLAUSE = re.compile(r"\s*(requires|ensures|where|\{|;|->)")
 RESULT = re.compile(r"(?:[^{;\[]|\[[^\]]*\])*?(?=\s*(?:\brequires\b|\bensures\b|\bwhere\b|\{|;))", re.S)
-OF_TRAIT = re.compile(r"^\s*impl\b[^{;]*\bfor\b[^{;]*(?=\{)", re.M)
+OF_TRAIT = re.compile(r"^\s*impl\b[^{}]*\bfor\b[^{}]*(?=\{)", re.M)
 
 
 def closed(text, at):

@@ -2,8 +2,10 @@
 // this crate's specs/Layout.antt.
 #![tactic(auto)]
 
-ghost use Rattle.std.specs.Prelude.{◌≡◌};
+ghost use Rattle.std.specs.Prelude.{◌≡◌, ◌⊎◌, IfErr};
+ghost use Rattle.refusals.specs.declared.Refusal.TheVariants.{TimeNotFinite};
 ghost use Rattle.plan_buffer.specs.Layout.{plan_length};
+ghost use Rattle.plan_buffer.specs.declared.error.BufferError.TheVariants.{WrongLength, Refused};
 ghost use Rattle.plan_buffer.specs.Buffers.{wrong_length, plan_number, asked_number, Planned, HoldsJoinable, Asked};
 
 use crate::error::WRONG_LENGTH;
@@ -39,8 +41,10 @@ pub fn plan(mv: &[f64], buffer: &mut [f64]) -> Result<(), BufferError>
 
 // Whether a duration is blocked by the plan in a buffer. A time that isn't finite is refused. A wrong length where the
 // buffer has fewer than a plan's 166 doubles.
+#[tactic(auto, unfolding(crate::specs::Buffers::blocking_in))]
 pub fn is_blocked(buffer: &[f64], t: f64) -> Result<bool, BufferError>
-    ensures { Asked buffer.now t (asked_number result) }
+    ensures number { Asked buffer.now t (asked_number result) }
+    ensures refused { IfErr result (λ error. (error ≡ WrongLength) ⊎ (error ≡ Refused TimeNotFinite)) }
 {
     if buffer.len() < PLAN_LENGTH {
         return Err(BufferError::WrongLength);
