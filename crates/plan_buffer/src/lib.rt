@@ -34,8 +34,10 @@ pub fn plan(mv: &[f64], buffer: &mut [f64]) -> Result<(), BufferError>
     if buffer.len() < PLAN_LENGTH {
         return Err(BufferError::WrongLength);
     }
-    let block = planner::plan(moved(mv))?;
-    write_plan(block, buffer);
+    match planner::plan(moved(mv)) {
+        Ok(block) => write_plan(block, buffer),
+        Err(refusal) => return Err(BufferError::from(refusal)),
+    }
     Ok(())
 }
 
