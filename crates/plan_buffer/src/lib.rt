@@ -35,7 +35,7 @@ pub fn plan(mv: &[f64], buffer: &mut [f64]) -> Result<(), BufferError>
         return Err(BufferError::WrongLength);
     }
     match planner::plan(moved(mv)) {
-        Ok(block) => write_plan(block, buffer),
+        Ok(block) => write_plan(&block, buffer),
         Err(refusal) => return Err(BufferError::from(refusal)),
     }
     Ok(())

@@ -101,16 +101,12 @@ fn put_interval(out: &mut [f64], at: usize, i: Interval)
 }
 
 // The plan's numbers. What lies beyond them stays.
-pub fn write_plan(block: Block, buffer: &mut [f64])
+pub fn write_plan(block: &Block, buffer: &mut [f64])
     requires { plan_length ≤ length buffer.old }
-    ensures { buffer.new ≡ plan_numbers block ++ drop plan_length buffer.old }
+    ensures { buffer.new ≡ plan_numbers block.now ++ drop plan_length buffer.old }
 {
-    let p_min = block.p_min;
-    let a = block.a;
-    let b = block.b;
-    let t_min = [block.t_min];
-    put(buffer, DURATION_AT, &t_min);
-    put_profile(buffer, PROFILE_AT, p_min);
-    put_interval(buffer, STRETCH_A_AT, a);
-    put_interval(buffer, STRETCH_B_AT, b);
+    put(buffer, DURATION_AT, &[block.t_min]);
+    put_profile(buffer, PROFILE_AT, block.p_min);
+    put_interval(buffer, STRETCH_A_AT, block.a);
+    put_interval(buffer, STRETCH_B_AT, block.b);
 }
