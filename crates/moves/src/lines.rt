@@ -72,6 +72,19 @@ impl<const N: usize> Form<N> for Short {
     ghost lines_fit = { refl };
 }
 
+// A form whose lines a vector has room for.
+pub trait Whole<const N: usize>: Form<N> {
+    ghost whole: { leb Self.LENGTH N ≡ true };
+}
+
+impl Whole<LINE_LENGTH> for Short {
+    ghost whole = { refl };
+}
+
+impl Whole<FULL_LINE_LENGTH> for Full {
+    ghost whole = { refl };
+}
+
 // All that a plan holds.
 pub struct Full;
 
@@ -116,15 +129,12 @@ pub fn put_line<F: Form<N>, const N: usize>(
 }
 
 // The line for the answer to record number n.
-pub fn line<F: Form<FULL_LINE_LENGTH>>(
-    n: u64,
-    x: Result<Block, Refusal>,
-) -> ArrayVec<u8, FULL_LINE_LENGTH>
+pub fn line<F: Whole<N>, const N: usize>(n: u64, x: Result<Block, Refusal>) -> ArrayVec<u8, N>
     ensures items { result.items ≡ line_with F.plan n x }
     ensures within { array_vec_len result ≤ F.LENGTH }
 {
     let mut line = ArrayVec::new();
-    put_line::<F, FULL_LINE_LENGTH>(&mut line, n, x);
+    put_line::<F, N>(&mut line, n, x);
     line
 }
 

@@ -7,7 +7,7 @@ ghost use Rattle.moves.specs.Records.{record_of};
 ghost use Rattle.moves.specs.Lines.{line_with};
 ghost use Rattle.moves.specs.Replies.{reply_of, goes_on_after};
 
-use crate::lines::{FULL_LINE_LENGTH, Form, put_line};
+use crate::lines::{Form, Whole, put_line};
 use crate::records::read_record;
 use arrayvec::ArrayVec;
 use planner::plan;
@@ -36,16 +36,17 @@ pub fn put_reply<F: Form<N>, const N: usize>(
     }
 }
 
-// The line that answers record number n takes the place of what line had; likewise.
-pub fn reply_to<F: Form<FULL_LINE_LENGTH>>(
+// The line that answers record number n takes the place of what line had, and whether another
+// may follow is said.
+pub fn reply_to<F: Whole<N>, const N: usize>(
     n: u64,
     bytes: &[u8],
-    line: &mut ArrayVec<u8, FULL_LINE_LENGTH>,
+    line: &mut ArrayVec<u8, N>,
 ) -> bool
     ensures line_is { line.new.items ≡ reply_of (line_with F.plan) n (record_of bytes.now) }
     ensures within { array_vec_len line.new ≤ F.LENGTH }
     ensures goes_on_value { result ≡ goes_on_after (record_of bytes.now) }
 {
     line.clear();
-    put_reply::<F, FULL_LINE_LENGTH>(n, bytes, line)
+    put_reply::<F, N>(n, bytes, line)
 }

@@ -59,7 +59,7 @@ impl Answers<ANSWER_WIDTH> for Left {
     #[tactic(auto, unfolding(crate::specs::Lines::answer_of))]
     fn line(of: ArrayVec<u8, 255>) -> ArrayVec<u8, ANSWER_WIDTH> {
         let mut reply = ArrayVec::new();
-        let goes_on = reply_to::<Short>(1, &of, &mut reply);
+        let goes_on = reply_to::<Short, LINE_LENGTH>(1, &of, &mut reply);
         let mut line = ArrayVec::new();
         put_word(&mut line, goes_on);
         put_rest(&mut line, &reply);
