@@ -20,10 +20,10 @@ pub fn normalized(b: u64) -> Parts
     let biased = b >> 52;
     let fraction = b & 0x000f_ffff_ffff_ffff;
     if biased == 0 {
-        let shift = u64::leading_zeros(fraction) - 11;
+        let shift = fraction.leading_zeros() - 11;
         Parts {
             significand: fraction << shift,
-            exponent: 1022 - (shift as u64),
+            exponent: 1022 - u64::from(shift),
         }
     } else {
         Parts {

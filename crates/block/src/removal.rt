@@ -4,7 +4,6 @@ ghost use Rattle.std.specs.Prelude.{◌≡◌};
 ghost use Rattle.block.specs.Selection.{slot, near, alike, alike_removal, removal};
 
 use crate::total;
-use doubles::EPSILON;
 use profile::Profile;
 
 // Whether two totals are under e apart. With a NaN they aren't.
@@ -52,13 +51,13 @@ pub fn removal(profiles: [Profile; 4]) -> Option<usize>
     let t1 = total(p1);
     let t2 = total(p2);
     let t3 = total(p3);
-    if near(32.0 * EPSILON, t0, t1) & (p0.direction != p1.direction) {
+    if near(32.0 * f64::EPSILON, t0, t1) & (p0.direction != p1.direction) {
         return Some(1);
     }
-    if near(256.0 * EPSILON, t2, t3) & (p2.direction != p3.direction) {
+    if near(256.0 * f64::EPSILON, t2, t3) & (p2.direction != p3.direction) {
         return Some(3);
     }
-    if near(256.0 * EPSILON, t0, t3) {
+    if near(256.0 * f64::EPSILON, t0, t3) {
         return Some(3);
     }
     alike_removal(t0, t1, t2, t3)

@@ -9,7 +9,6 @@ ghost use Rattle.block.specs.Steps.{or_next, fastest_of_three, removed};
 
 use crate::removal::{near, removal};
 use crate::{Block, Fastest, Interval, total};
-use doubles::EPSILON;
 use profile::Profile;
 use refusals::Refusal;
 
@@ -43,7 +42,7 @@ fn of_two(p: Profile, q: Profile) -> Result<Block, Refusal>
 {
     let t = total(p);
     let u = total(q);
-    if near(8.0 * EPSILON, t, u) {
+    if near(8.0 * f64::EPSILON, t, u) {
         return Ok(Block::new(p, Interval::none(), Interval::none()));
     }
     if t < u {

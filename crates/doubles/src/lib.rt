@@ -12,19 +12,18 @@ mod splitting; // splitting.rt: a double's leading digits
 pub use guess::inverse_root_guess;
 pub use splitting::leading_digits;
 
-// f64::EPSILON, document 01's EPS: 2^-52.
-pub const EPSILON: f64 = 2.220446049250313e-16;
+// The code's f64::EPSILON, document 01's EPS, is that of the definitions.
+pub fn constants() -> f64
+    ensures { result ≡ eps }
+{
+    f64::EPSILON
+}
 
-// The constant of the code is that of the definitions.
-pub fn constants()
-    ensures { EPSILON ≡ eps }
-{}
-
-// As Rust's `abs`: the sign is cleared, also that of -0. (0 - x is +0 for either zero, in one test, where std's takes two.)
+// As Rust's `abs`: the sign is cleared, also that of -0.
 pub fn abs(x: f64) -> f64
     ensures { result ≡ absᶠ x }
 {
-    if x <= 0.0 { 0.0 - x } else { x }
+    x.abs()
 }
 
 // As Rust's `min`: of a number and a NaN the number, and of 0 and -0 the first, where the library's promises either.

@@ -7,35 +7,34 @@ ghost use Rattle.phase_times.specs.TimeAllSingleStep.{times_single_step_solution
 ghost use Rattle.phase_times.specs.TimeAllSingleStep.{times_at_constant_speed, zero_times};
 
 use crate::constants::Constants;
-use doubles::EPSILON;
 use profile::{Start, Target};
 
 #[tactic(auto, unfolding(crate::specs::TimeAllSingleStep::changes_acceleration))]
 pub fn changes_acceleration(start: Start, target: Target) -> bool
     ensures { result ≡ changes_acceleration start target }
 {
-    doubles::abs(target.af - start.a0) > EPSILON
+    doubles::abs(target.af - start.a0) > f64::EPSILON
 }
 
 #[tactic(auto, unfolding(crate::specs::TimeAllSingleStep::starts_accelerated))]
 pub fn starts_accelerated(start: Start) -> bool
     ensures { result ≡ starts_accelerated start }
 {
-    doubles::abs(start.a0) > EPSILON
+    doubles::abs(start.a0) > f64::EPSILON
 }
 
 #[tactic(auto, unfolding(crate::specs::TimeAllSingleStep::starts_moving))]
 pub fn starts_moving(start: Start) -> bool
     ensures { result ≡ starts_moving start }
 {
-    doubles::abs(start.v0) > EPSILON
+    doubles::abs(start.v0) > f64::EPSILON
 }
 
 #[tactic(auto, unfolding(crate::specs::TimeAllSingleStep::starts_at_target))]
 pub fn starts_at_target(k: Constants) -> bool
     ensures { result ≡ starts_at_target k }
 {
-    doubles::abs(k.pd) < EPSILON
+    doubles::abs(k.pd) < f64::EPSILON
 }
 
 // False for a NaN.

@@ -5,7 +5,6 @@ ghost use Rattle.phase_times_quartic.specs.CorrectionAcc1.{orig_acc1, deriv_acc1
 ghost use Rattle.phase_times_quartic.specs.CorrectionAcc1.{third_correction_acc1, second_correction_acc1};
 ghost use Rattle.phase_times_quartic.specs.CorrectionAcc1.{corrected_acc1};
 
-use doubles::EPSILON;
 use phase_times::constants::Constants;
 use profile::{Limits, Start};
 
@@ -102,7 +101,7 @@ pub fn corrected_acc1(
 ) -> f64
     ensures { result ≡ corrected_acc1 start k m h0_acc1 h2_acc1 t }
 {
-    if t > EPSILON {
+    if t > f64::EPSILON {
         let next = first_correction_acc1(start, k, m, h0_acc1, h2_acc1, t);
         second_correction_acc1(start, k, m, h0_acc1, h2_acc1, next)
     } else {

@@ -6,7 +6,6 @@ ghost use Rattle.phase_times_quartic.specs.TimeAcc0.{newton_acc0, corrected_acc0
 
 use crate::quartic::Quartic;
 use crate::root_range::RootRange;
-use doubles::EPSILON;
 use phase_times::constants::Constants;
 use profile::{Limits, Start, Target};
 
@@ -82,7 +81,7 @@ fn newton_acc0(k: Constants, m: Limits, h0_acc0: f64, h2_acc0: f64, t: f64) -> f
 pub fn corrected_acc0(k: Constants, m: Limits, h0_acc0: f64, h2_acc0: f64, t: f64) -> f64
     ensures { result ≡ corrected_acc0 k m h0_acc0 h2_acc0 t }
 {
-    if t > EPSILON {
+    if t > f64::EPSILON {
         newton_acc0(k, m, h0_acc0, h2_acc0, t)
     } else {
         t

@@ -6,7 +6,6 @@ ghost use Rattle.phase_times_quartic.specs.TimeNone.{times_none};
 
 use crate::quartic::Quartic;
 use crate::root_range::RootRange;
-use doubles::EPSILON;
 use phase_times::constants::Constants;
 use profile::{Limits, Start, Target};
 
@@ -69,7 +68,7 @@ pub fn corrected_none(
 ) -> f64
     ensures { result ≡ corrected_none start target k m h2_none t }
 {
-    if t > EPSILON {
+    if t > f64::EPSILON {
         newton_none(start, target, k, m, h2_none, t)
     } else {
         t

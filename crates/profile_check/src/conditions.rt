@@ -6,7 +6,6 @@ ghost use Rattle.doubles.specs.Functions.{absᶠ};
 ghost use Rattle.profile.specs.Tolerances.{p_precision, v_precision, a_precision};
 ghost use Rattle.profile_check.specs.Check.{times_pass, phases_pass, sum_passes, zero_passes, a_within, v_within};
 
-use doubles::EPSILON;
 use profile::{Bounds, Profile, ReachedLimits, Target};
 use profile_rows::{Row, sums_of};
 
@@ -29,9 +28,9 @@ pub fn phases_pass(reached: ReachedLimits, t: [f64; 7]) -> bool
     ensures { result ≡ phases_pass reached t }
 {
     let both = reached.is_acc0_acc1();
-    !(reached.ends_in_vel() & (t[3] < EPSILON))
-        & !((reached.is_acc0() | both) & (t[1] < EPSILON))
-        & !((reached.is_acc1() | both) & (t[5] < EPSILON))
+    !(reached.ends_in_vel() & (t[3] < f64::EPSILON))
+        & !((reached.is_acc0() | both) & (t[1] < f64::EPSILON))
+        & !((reached.is_acc1() | both) & (t[5] < f64::EPSILON))
 }
 
 #[tactic(auto, unfolding(crate::specs::Check::sum_passes))]
@@ -47,7 +46,7 @@ pub fn sum_passes(longest: f64, t: [f64; 7]) -> bool
 fn zero_passes(a: f64, a_next: f64, v: f64, j: f64, b: Bounds) -> bool
     ensures { result ≡ zero_passes a a_next v j b }
 {
-    if a_next * a < -EPSILON {
+    if a_next * a < -f64::EPSILON {
         let v_a_zero = v - a * a / (2.0 * j);
         return !((v_a_zero > b.v_upp_lim) | (v_a_zero < b.v_low_lim));
     }

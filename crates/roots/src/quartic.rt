@@ -6,21 +6,21 @@ ghost use Rattle.roots.specs.Quartic.{roots_by_factors, quartic_of};
 use crate::list::Roots;
 use crate::resolvent::{Zeros, solve_resolvent};
 use cbrt::cbrt;
-use doubles::{EPSILON, abs};
+use doubles::abs;
 use sqrt::sqrt;
 
-const EPS_M_BY_16: f64 = 16.0 * EPSILON;
+const EPS_M_BY_16: f64 = 16.0 * f64::EPSILON;
 
 // The roots of x⁴ + a x³ + b x² + c x + d that are at least 0.
 #[tactic(auto, unfolding(crate::specs::Quartic::quartic_of))]
 pub fn solve_quart_monic_coeffs(a: f64, b: f64, c: f64, d: f64) -> Roots
     ensures { result ≡ quartic_of a b c d }
 {
-    let no_constant = abs(d) < EPSILON;
-    if no_constant & (abs(c) < EPSILON) {
-        return with_quadratic(Roots::new().insert(0.0), a, b, EPSILON);
+    let no_constant = abs(d) < f64::EPSILON;
+    if no_constant & (abs(c) < f64::EPSILON) {
+        return with_quadratic(Roots::new().insert(0.0), a, b, f64::EPSILON);
     }
-    if no_constant & (abs(a) < EPSILON) & (abs(b) < EPSILON) {
+    if no_constant & (abs(a) < f64::EPSILON) & (abs(b) < f64::EPSILON) {
         return Roots::new().insert(0.0).insert(-cbrt(c));
     }
     roots_by_factors(a, b, c, d)
@@ -90,7 +90,7 @@ fn factors_of(a: f64, b: f64, c: f64, d: f64, y: f64) -> Factors
     ensures { result ≡ factors_of a b c d y }
 {
     let discriminant = y * y - 4.0 * d;
-    if abs(discriminant) < EPSILON {
+    if abs(discriminant) < f64::EPSILON {
         return equal_constants(a, b, y);
     }
     let sqrt_d = sqrt(discriminant);
@@ -111,7 +111,7 @@ fn equal_constants(a: f64, b: f64, y: f64) -> Factors
 {
     let q = y / 2.0;
     let discriminant = a * a - 4.0 * (b - y);
-    if abs(discriminant) < EPSILON {
+    if abs(discriminant) < f64::EPSILON {
         let p = a / 2.0;
         return Factors {
             p1: p,

@@ -3,7 +3,7 @@ ghost use Rattle.std.specs.Prelude.{◌≡◌};
 ghost use Rattle.roots.specs.Resolvent.{clamped_ratio, three_zeros, cube_root, quotient, few_zeros, resolvent_of};
 
 use cbrt::cbrt;
-use doubles::{EPSILON, abs, max, min};
+use doubles::{abs, max, min};
 use sqrt::sqrt;
 use third_angle_pair::third_angle_pair;
 
@@ -88,7 +88,7 @@ fn few_zeros(third: f64, u: f64, v: f64) -> Zeros
     let x0 = (u + v) - third;
     let x1 = -(u + v) / 2.0 - third;
     let x2 = SQRT_3 * (u - v) / 2.0;
-    if abs(x2) < EPSILON {
+    if abs(x2) < f64::EPSILON {
         return Zeros::Two(x0, x1);
     }
     Zeros::One(x0, x1, x2)

@@ -3,7 +3,6 @@
 ghost use Rattle.std.specs.Prelude.{◌≡◌};
 ghost use Rattle.search.specs.Choices.{has_zero_limit, ends_at_rest, points_up, rests_at_target, towards_target};
 
-use doubles::EPSILON;
 use phase_times::constants::Constants;
 use profile::{Limits, Start, Target};
 
@@ -19,7 +18,7 @@ pub fn has_zero_limit(m: Limits) -> bool
 pub fn ends_at_rest(target: Target) -> bool
     ensures { result ≡ ends_at_rest target }
 {
-    (doubles::abs(target.vf) < EPSILON) & (doubles::abs(target.af) < EPSILON)
+    (doubles::abs(target.vf) < f64::EPSILON) & (doubles::abs(target.af) < f64::EPSILON)
 }
 
 // Then the limits are first taken as given; else, also for a NaN, those for the opposite direction.
@@ -34,9 +33,9 @@ pub fn points_up(k: Constants) -> bool
 pub fn rests_at_target(start: Start, k: Constants) -> bool
     ensures { result ≡ rests_at_target start k }
 {
-    (doubles::abs(start.v0) < EPSILON)
-        & (doubles::abs(start.a0) < EPSILON)
-        & (doubles::abs(k.pd) < EPSILON)
+    (doubles::abs(start.v0) < f64::EPSILON)
+        & (doubles::abs(start.a0) < f64::EPSILON)
+        & (doubles::abs(k.pd) < f64::EPSILON)
 }
 
 // The limits for the direction of pf - p0.

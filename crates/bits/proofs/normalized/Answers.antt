@@ -23,9 +23,10 @@ overflow_sub-shift c = omega (arith, (amount c).least)
 pub returns-then-biased-eq0 : goal.returns-then-biased-eq0
 returns-then-biased-eq0 c =
     rw (
+      c.from.ensures,
       mod-eq_of_lt
-          {n = bit_and c.args.b 0xf_ffff_ffff_ffff * 2 ^ (count_leading_zeros 64 (bit_and c.args.b 0xf_ffff_ffff_ffff) - 11)} {m = 2 ^ 64} (omega (arith, (amount c).fits)),
-      is c,
+          {n = bit_and c.args.b 0xf_ffff_ffff_ffff * 2 ^ (count_leading_zeros 64 (bit_and c.args.b 0xf_ffff_ffff_ffff) - 11)} {m = 2 ^ 64} (omega (arith, (amount c.before).fits)),
+      is c.before,
     )
     (subnormal c.args.b c.requires.0 (omega arith))
 

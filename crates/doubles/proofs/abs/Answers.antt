@@ -1,9 +1,7 @@
--- `doubles::abs` meets its contract: 0 - x is exact. Assumes nothing.
-use Rattle.doubles.proofs.FunctionLaws.{holds, abs_difference, abs_itself}
+-- `doubles::abs` meets its contract. Assumes nothing.
+use mathlib.Core.Path.{◌∙◌}
+use Rattle.doubles.proofs.FunctionLaws.{sign_cleared}
 use Rattle.doubles.proofs.abs.Goals as goal
 
-pub returns-then-x : goal.returns-then-x
-returns-then-x c = abs_difference _ (holds _ c.well_formed.0.1) c.if-x.true
-
-pub returns-else-x : goal.returns-else-x
-returns-else-x c = abs_itself _ (holds _ c.well_formed.0.1) c.if-x.false
+pub returns : goal.returns
+returns c = c.abs.ensures.value ∙ sign_cleared c.args.x

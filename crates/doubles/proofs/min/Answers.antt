@@ -1,4 +1,4 @@
--- `doubles::min` meets its contract. Assumes nothing.
+-- `doubles::min` meets its contract. Assumes nothing. (A hint `unfolding` takes no name with ᶠ.)
 use mathlib.Core.Path.{sym, ap}
 use mathlib.Core.Bool.{Bool, cond}
 use Rattle.doubles.specs.Functions.{minᶠ}
