@@ -4,6 +4,8 @@
 ghost use Rattle.std.specs.Prelude.{◌≡◌};
 ghost use Rattle.elementary.specs.Functions.{cbrt_of};
 
+// A pattern is a plain number: the estimate, the certificate and the digits ask for three ranges of it (below 2^63, a
+// normal double's, a finite one's above 0). Three types would say the same at more places.
 mod candidate;
 mod certificate;
 mod digits;
