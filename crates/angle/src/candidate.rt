@@ -9,6 +9,7 @@ ghost use Rattle.angle.specs.Candidates.{small_sine, sine_candidate};
 use doubles::leading_digits;
 
 // A step of Newton's method for 1 / √(2h).
+#[tactic(auto, unfolding(crate::specs::Candidates::newton_step))]
 fn newton(h: f64, y: f64) -> f64
     ensures { result ≡ newton_step h y }
 {
@@ -16,6 +17,7 @@ fn newton(h: f64, y: f64) -> f64
 }
 
 // 1 / √x to about 35 digits, and x where it is a NaN.
+#[tactic(auto, unfolding(crate::specs::Candidates::inverse_root))]
 fn inverse_root(x: f64) -> f64
     ensures { result ≡ inverse_root x }
 {
@@ -23,11 +25,12 @@ fn inverse_root(x: f64) -> f64
         return x;
     }
     let h = x * 0.5;
-    let y = doubles::inverse_root_guess(f64::to_bits(x) & 0x7fff_ffff_ffff_ffff);
+    let y = doubles::inverse_root_guess(x.to_bits() & 0x7fff_ffff_ffff_ffff);
     newton(h, newton(h, newton(h, y)))
 }
 
 // The u from 0 to 1 with u²(3 + u) = 3z², to about 21 digits.
+#[tactic(auto, unfolding(crate::specs::Candidates::polynomial_of))]
 fn polynomial(z: f64) -> f64
     ensures { result ≡ polynomial_of z }
 {
@@ -40,6 +43,7 @@ fn polynomial(z: f64) -> f64
 }
 
 // 2(1 + t) - u²(3 + u), where w is 1 + t rounded, and u² the sum of square and rest. Each difference is exact.
+#[tactic(auto, unfolding(crate::specs::Candidates::excess_of))]
 fn excess(t: f64, w: f64, u: f64, square: f64, rest: f64) -> f64
     ensures { result ≡ excess_of t w u square rest }
 {
@@ -47,6 +51,7 @@ fn excess(t: f64, w: f64, u: f64, square: f64, rest: f64) -> f64
 }
 
 // The d with (u + d)²(3 + u + d) = u²(3 + u) + f, by a step of Halley's method.
+#[tactic(auto, unfolding(crate::specs::Candidates::correction_of))]
 fn correction(u: f64, f: f64) -> f64
     ensures { result ≡ correction_of u f }
 {
@@ -64,6 +69,7 @@ pub struct Estimate {
     pub rest: f64,
 }
 
+#[tactic(auto, unfolding(crate::specs::Candidates::lead_of, crate::specs::Candidates::split_square))]
 pub fn estimated(t: f64) -> Estimate
     ensures { Estimated t result.u result.d result.square result.rest }
 {
@@ -81,6 +87,7 @@ pub fn estimated(t: f64) -> Estimate
 }
 
 // √(a + e), where e is small, and y is near 1 / √a.
+#[tactic(auto, unfolding(crate::specs::Candidates::near_root))]
 fn near_root(a: f64, e: f64, y: f64) -> f64
     ensures { result ≡ near_root a e y }
 {
@@ -91,6 +98,7 @@ fn near_root(a: f64, e: f64, y: f64) -> f64
 
 // The sine for a t near 1, where 3 - 2v - v² has few digits: a series, and a step of Newton's method for
 // 9s² - 24s⁴ + 16s⁶ = 2w - w² with w for 1 - t.
+#[tactic(auto, unfolding(crate::specs::Candidates::small_sine))]
 fn small_sine(t: f64) -> f64
     ensures { result ≡ small_sine t }
 {
@@ -115,6 +123,7 @@ pub fn cosine_candidate(u: f64, d: f64) -> f64
 }
 
 // √(3 - 2v - v²) / 2. The rounding error of the main term is part of the small one.
+#[tactic(auto, unfolding(crate::specs::Candidates::large_sine))]
 fn large_sine(u: f64, d: f64, square: f64, rest: f64) -> f64
     ensures { result ≡ large_sine u d square rest }
 {
@@ -124,6 +133,7 @@ fn large_sine(u: f64, d: f64, square: f64, rest: f64) -> f64
     0.5 * near_root(a, e, inverse_root(a))
 }
 
+#[tactic(auto, unfolding(crate::specs::Candidates::sine_candidate))]
 pub fn sine_candidate(t: f64, u: f64, d: f64, square: f64, rest: f64) -> f64
     ensures { result ≡ sine_candidate t u d square rest }
 {

@@ -26,7 +26,7 @@ pub fn classify(t: f64) -> Argument
     if t.is_nan() {
         return Argument::Known(t, t);
     }
-    let b = f64::to_bits(t);
+    let b = t.to_bits();
     let m = b & 0x7fff_ffff_ffff_ffff;
     if m > 0x3ff0_0000_0000_0000 {
         return Argument::Known(0.0 / 0.0, 0.0 / 0.0);

@@ -33,11 +33,12 @@ pub trait ThirdAngle {
 }
 
 // The nearest double: the candidate where comparison of whole numbers certifies it, and otherwise the one by its digits.
+#[tactic(auto, using(bits::proofs::Patterns::not_nan_bits))]
 pub fn nearest<F: ThirdAngle>(t: Pattern, candidate: f64) -> f64
     ensures { result ≡ F.of (double_of t) }
 {
     if !candidate.is_nan() {
-        if F::certified(t, f64::to_bits(candidate)) {
+        if F::certified(t, candidate.to_bits()) {
             return candidate;
         }
     }
@@ -55,6 +56,7 @@ pub fn third_angle<F: ThirdAngle>(t: f64) -> f64
 }
 
 // The nearest double, one binary digit a round.
+#[tactic(auto, using(bits::proofs::Patterns::not_nan_bits))]
 pub fn third_angle_by_digits<F: ThirdAngle>(t: f64) -> f64
     ensures { result ≡ F.of t }
 {

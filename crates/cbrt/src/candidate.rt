@@ -6,6 +6,7 @@ ghost use Rattle.cbrt.specs.Candidate.{first_guess, factor_of, refined_root, can
 use doubles::leading_digits;
 
 // Near the cube root of the double whose pattern is b: a third of the exponent.
+#[tactic(auto, using(bits::proofs::Patterns::not_nan_bits), unfolding(crate::specs::Candidate::first_guess))]
 fn first_guess(b: u64) -> f64
     requires { b < 2 ^ 63 }
     ensures { result ≡ first_guess b }
@@ -14,6 +15,7 @@ fn first_guess(b: u64) -> f64
 }
 
 // About r^(-1/3), to 23 digits for an r near 1.
+#[tactic(auto, unfolding(crate::specs::Candidate::factor_of))]
 fn factor(r: f64) -> f64
     ensures { result ≡ factor_of r }
 {
@@ -22,6 +24,7 @@ fn factor(r: f64) -> f64
 }
 
 // With t near the root, of 23 digits: t³ is x(1 - z), where x - t³ is exact, and the root t(1 - z)^(-1/3).
+#[tactic(auto, unfolding(crate::specs::Candidate::refined_root))]
 fn refined(x: f64, inverse: f64, t: f64) -> f64
     ensures { result ≡ refined_root x inverse t }
 {
@@ -31,6 +34,7 @@ fn refined(x: f64, inverse: f64, t: f64) -> f64
     t + t * (z * (0.3333333333333333 + z * 0.2222222222222222))
 }
 
+#[tactic(auto, unfolding(crate::specs::Candidate::candidate_of))]
 pub fn candidate(x: f64, b: u64) -> f64
     requires { b < 2 ^ 63 }
     ensures { result ≡ candidate_of x b }

@@ -4,6 +4,8 @@
 ghost use Rattle.std.specs.Prelude.{◌≡◌};
 ghost use Rattle.elementary.specs.Functions.{cbrt_of};
 
+// A pattern is a plain number: the estimate, the certificate and the digits ask for three ranges of it (below 2^63, a
+// normal double's, a finite one's above 0). Three types would say the same at more places.
 mod candidate;
 mod certificate;
 mod digits;
@@ -16,12 +18,12 @@ pub fn cbrt(x: f64) -> f64
     if x.is_nan() {
         return x;
     }
-    let b = f64::to_bits(x);
+    let b = x.to_bits();
     let m = b & 0x7fff_ffff_ffff_ffff;
     if (m >= 0x10_0000_0000_0000) & (m < 0x7ff0_0000_0000_0000) {
         let root = candidate::candidate(f64::from_bits(m), m);
         if !root.is_nan() {
-            if certificate::is_root(m, f64::to_bits(root)) {
+            if certificate::is_root(m, root.to_bits()) {
                 if b == m {
                     return root;
                 }
@@ -33,13 +35,14 @@ pub fn cbrt(x: f64) -> f64
 }
 
 // The double nearest to the cube root, one binary digit a round.
+#[tactic(auto, using(bits::proofs::Patterns::not_nan_bits))]
 pub fn cbrt_by_digits(x: f64) -> f64
     ensures { result ≡ cbrt_of x }
 {
     if x.is_nan() {
         return x;
     }
-    let b = f64::to_bits(x);
+    let b = x.to_bits();
     let m = b & 0x7fff_ffff_ffff_ffff;
     if m == 0 {
         return x;

@@ -1,5 +1,5 @@
 -- The excess m * 2 ^ 52 - r² + r reckoned modulo 2 ^ 64, and the verdict by it. Assumes nothing.
-use Rattle.std.proofs.Common.{◌≡◌, ℕ, ◌+◌, ◌-◌, ◌*◌, ◌/◌, ◌%◌, ◌^◌, ◌<◌, ◌≤◌, ◌⊎◌, sym, ap, ◌∙◌, inl, inr, le_trans}
+use Rattle.std.proofs.Common.{◌≡◌, ℕ, ◌+◌, ◌-◌, ◌*◌, ◌/◌, ◌%◌, ◌^◌, ◌<◌, ◌≤◌, ◌⊎◌, refl, sym, ap, ◌∙◌, inl, inr, le_trans}
 use Rattle.std.proofs.Common.{mul-le-mul_right, mul-le-mul_left, lt_of_not-le, arith}
 use native.Mathlib.Decide.{dec_le}
 use Rattle.sqrt.specs.Verdicts.{verdict_of}
@@ -194,3 +194,49 @@ module _ (m r top rest e : ℕ) (m-most : m < 2 ^ 54) (r-most : r < 2 ^ 53)
           | yes h ↦ inl (same_residue z (r * r) (m * 2 ^ 52 + r) most same h c.0)
           | no h ↦ inr (wrapped_residue z (r * r) (m * 2 ^ 52 + r) most same (lt_of_not-le h) c.1)
         ]
+
+-- ---- the differences as the code has them
+
+-- what is taken away, added again
+back : (x y : ℕ) → x < 2 ^ 64 → y < 2 ^ 64 → ((x + (2 ^ 64 - y)) % 2 ^ 64 + y) % 2 ^ 64 ≡ x
+back x y h g = omega arith
+
+module _ (m r : ℕ) where
+  abbrev top : ℕ
+  top = (m + (2 ^ 64 - r / 2 ^ 26 * (r / 2 ^ 26))) % 2 ^ 64
+
+  abbrev pub distance : ℕ
+  distance = ((top + (2 ^ 64 - r / 2 ^ 26 * (r % 2 ^ 26) / 2 ^ 25)) % 2 ^ 64 + 8) % 2 ^ 64
+
+  abbrev less : ℕ
+  less = (top * 2 ^ 52 % 2 ^ 64 + (2 ^ 64 - r / 2 ^ 26 * (r % 2 ^ 26) * 2 ^ 27 % 2 ^ 64)) % 2 ^ 64
+
+  abbrev pub excess_of : ℕ
+  excess_of = ((less + (2 ^ 64 - r % 2 ^ 26 * (r % 2 ^ 26))) % 2 ^ 64 + r) % 2 ^ 64
+
+  module _ (m-most : m < 2 ^ 54) (r-most : r < 2 ^ 53) where
+    top-wraps : (top + r / 2 ^ 26 * (r / 2 ^ 26)) % 2 ^ 64 ≡ m
+    top-wraps = let h = (products r r-most).high in back m (r / 2 ^ 26 * (r / 2 ^ 26)) (omega arith) (omega arith)
+
+    rest-wraps : ((top + (2 ^ 64 - r / 2 ^ 26 * (r % 2 ^ 26) / 2 ^ 25)) % 2 ^ 64 + r / 2 ^ 26 * (r % 2 ^ 26) / 2 ^ 25)
+        % 2 ^ 64 ≡ top
+    rest-wraps =
+        let h = (products r r-most).cross in
+        back top (r / 2 ^ 26 * (r % 2 ^ 26) / 2 ^ 25) (residue_lt top _ refl) (omega arith)
+
+    less-wraps : (less + r / 2 ^ 26 * (r % 2 ^ 26) * 2 ^ 27 % 2 ^ 64) % 2 ^ 64 ≡ top * 2 ^ 52 % 2 ^ 64
+    less-wraps =
+        back (top * 2 ^ 52 % 2 ^ 64) (r / 2 ^ 26 * (r % 2 ^ 26) * 2 ^ 27 % 2 ^ 64)
+        (residue_lt _ (top * 2 ^ 52) refl) (residue_lt _ (r / 2 ^ 26 * (r % 2 ^ 26) * 2 ^ 27) refl)
+
+    low-wraps : ((less + (2 ^ 64 - r % 2 ^ 26 * (r % 2 ^ 26))) % 2 ^ 64 + r % 2 ^ 26 * (r % 2 ^ 26)) % 2 ^ 64 ≡ less
+    low-wraps =
+        let h = (products r r-most).low in
+        back less (r % 2 ^ 26 * (r % 2 ^ 26)) (residue_lt less _ refl) (omega arith)
+
+    pub far_is : 16 ≤ distance → Unknown ≡ verdict_of (m * 2 ^ 52) r
+    far_is = far m r top _ distance m-most r-most top-wraps rest-wraps refl
+
+    pub excess_is : distance < 16 → Excess (m * 2 ^ 52) r excess_of
+    excess_is near =
+        excess m r top _ distance m-most r-most top-wraps rest-wraps refl near less _ excess_of less-wraps low-wraps refl

@@ -6,6 +6,7 @@ ghost use Rattle.sqrt.specs.Candidate.{candidate_of};
 
 // With g near 1 / √x and r = 1 - x g²: √x is x g (1 - r)^(-1/2), here s by a polynomial of r as the product f c, to 30
 // digits. Then s is corrected by x - s², computed with a, the 26 leading digits of x g, as (x - a²) - (s - a)(s + a).
+#[tactic(auto, unfolding(crate::specs::Candidate::candidate_of))]
 pub fn candidate(x: f64, b: u64) -> f64
     requires { b < 2 ^ 63 }
     ensures { result ≡ candidate_of x b }

@@ -4,6 +4,8 @@
 ghost use Rattle.std.specs.Prelude.{◌≡◌};
 ghost use Rattle.elementary.specs.Functions.{sqrt_of};
 
+// A pattern is a plain number: the three functions that take one ask for three ranges of it (below 2^63, a normal
+// double's, a finite one's above 0), each in one contract. Three types would say the same at more places.
 mod candidate;
 mod certificate;
 mod digits;
@@ -18,11 +20,11 @@ pub fn sqrt(x: f64) -> f64
     if x.is_nan() {
         return x;
     }
-    let b = f64::to_bits(x);
+    let b = x.to_bits();
     if (b >= 0x10_0000_0000_0000) & (b < 0x7ff0_0000_0000_0000) {
         let s = candidate::candidate(x, b);
         if !s.is_nan() {
-            let c = f64::to_bits(s);
+            let c = s.to_bits();
             match certificate::root_judged(b, c) {
                 Verdict::Nearest => return s,
                 Verdict::TooLow => return f64::from_bits(c + 1),
@@ -35,13 +37,14 @@ pub fn sqrt(x: f64) -> f64
 }
 
 // IEEE 754's square root, one binary digit a round.
+#[tactic(auto, using(bits::proofs::Patterns::not_nan_bits))]
 pub fn sqrt_by_digits(x: f64) -> f64
     ensures { result ≡ sqrt_of x }
 {
     if x.is_nan() {
         return x;
     }
-    let b = f64::to_bits(x);
+    let b = x.to_bits();
     if b == 0 {
         return x;
     }

@@ -1,3 +1,3 @@
--- The definitions that the contracts of `cosine` cite, besides the function's own in `elementary`.
+-- The definitions that the contracts of `third_angle_cosine` cite, besides the function's own in `elementary`.
 pub mod Scaled
 pub mod Certificate

@@ -15,7 +15,8 @@ use angle::Pattern;
 // The e with the sine from 2^-(e + 1) to 2^-e, for a t above 0, of this size.
 fn binade(t: Size) -> u64
     requires { (0 < units t) × (units t ≤ 2 ^ 128 - 2 ^ 75) }
-    ensures { (0 < result) × (result < 28) × InBinade (third_angle_sine_real (2 ^ (54 + result)) false (units t) (2 ^ 128)) }
+    ensures bound { (0 < result) × (result < 28) }
+    ensures in_binade { InBinade (third_angle_sine_real (2 ^ (54 + result)) false (units t) (2 ^ 128)) }
 {
     for e in 1..27u64 {
         if algebraic::order::compared(Algebraic::Sine(0, t, e), 0x20_0000_0000_0000).is_ge() {

@@ -1,10 +1,8 @@
 -- `cbrt::cbrt_by_digits` meets its contract. Assumes nothing.
 use mathlib.Core.Path.{sym, ◌∙◌, subst}
-use native.Mathlib.Omega.{arith}
 use lib.Dec.{T}
 use lib.Bits.{and_mask}
 use lib.Ieee.{binary64, to_bits}
-use Rattle.bits.proofs.Patterns.{not_nan_bits}
 use Rattle.cbrt.proofs.Signs.{nan_root, zero_root, infinite_root, root_positive, root_negative}
 use Rattle.cbrt.proofs.cbrt_by_digits.Goals as goal
 
@@ -21,9 +19,6 @@ returns-then-m-ge9218868437227405312 c =
     let x = c.args.x in
     infinite_root x (subst T (sym c.well_formed.0.1) tt) c.if-is_nan.ensures.not_nan
     (rw (and_mask (to_bits binary64 x) 63) at c.if-m-ge9218868437227405312.true)
-
-pub float_from_bits-root : goal.float_from_bits-root
-float_from_bits-root c = not_nan_bits _ (omega (arith, c.root_pattern-root.ensures.0))
 
 pub returns-then-b-m : goal.returns-then-b-m
 returns-then-b-m c =

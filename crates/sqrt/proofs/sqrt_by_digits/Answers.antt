@@ -5,7 +5,7 @@ use lib.Ieee.{Float, nan, binary64, of_bits, to_bits, fits, is_nan, div}
 use lib.Ieee.Bits.{of_bits-to_bits}
 use Rattle.bits.specs.Fields.{pattern_units}
 use Rattle.elementary.specs.Functions.{sqrt_of}
-use Rattle.bits.proofs.Patterns.{pattern_most, not_nan_bits, pattern_units_pos, pattern_value}
+use Rattle.bits.proofs.Patterns.{pattern_most, pattern_units_pos, pattern_value}
 use Rattle.elementary.proofs.Roots.{sqrt_of_negative}
 use Rattle.sqrt.proofs.Specials.{at_nan}
 use Rattle.sqrt.proofs.sqrt_by_digits.Goals as goal
@@ -64,9 +64,6 @@ returns-then-is_nan c = at_nan c.args.x (sym c.if-is_nan.ensures.value)
 pub returns-then-b-eq0 : goal.returns-then-b-eq0
 returns-then-b-eq0 c =
     at_pattern c.args.x 0 (subst T (sym c.well_formed.0.1) tt) c.if-b-eq0.true zero
-
-pub float_from_bits-result : goal.float_from_bits-result
-float_from_bits-result c = not_nan_bits c.root_pattern.result (let h = c.root_pattern.ensures.0 in omega arith)
 
 pub returns-then-b-lt9218868437227405312 : goal.returns-then-b-lt9218868437227405312
 returns-then-b-lt9218868437227405312 c =

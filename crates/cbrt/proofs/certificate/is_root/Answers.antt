@@ -97,12 +97,15 @@ pub overflow_mul-n : goal.overflow_mul-n
 overflow_mul-n c =
     omega (arith, start c.args.b c.requires.0 c.requires.1)
 
-pub between-requires : goal.between-requires
-between-requires c =
+pub invariant_of-between : goal.invariant_of-between
+invariant_of-between c =
     let b = c.args.b in
-    rw (and_mask b 52)
-    (let l = limbs (b % 2 ^ 52 + 2 ^ 52) ((b / 2 ^ 52 + 2043) % 3) (omega arith) (omega arith) in
-    (omega arith, omega arith, omega arith, l.high, l.low))
+    let m = (b % 2 ^ 52 + 2 ^ 52) * 2 ^ ((b / 2 ^ 52 + 2043) % 3) % 2 ^ 64 in
+    rw (and_mask b 52, and_mask m 1)
+    (record {
+      high_fits = (limbs (b % 2 ^ 52 + 2 ^ 52) ((b / 2 ^ 52 + 2043) % 3) (omega arith) (omega arith)).high;
+      low_fits = omega arith;
+    })
 
 pub returns : goal.returns
 returns c =

@@ -1,74 +1,59 @@
 -- `sqrt::certificate::judged` meets its contract. Assumes nothing.
-use Rattle.std.proofs.Common.{◌≡◌, ℕ, ◌*◌, ◌^◌, ◌<◌, arith}
+use Rattle.std.proofs.Common.{◌≡◌, ℕ, ◌+◌, ◌-◌, ◌%◌, ◌^◌, ◌<◌, refl, arith}
 use lib.Bits.{and_mask}
-use Rattle.sqrt.proofs.Excess.{Excess, products, far, excess, zero_high, zero_none, small, larger, negative_high}
-use Rattle.sqrt.proofs.Excess.{none, residue_lt}
-use Rattle.sqrt.proofs.certificate.judged.Goals.{After-wrapping_add_u64-excess}
+use Rattle.sqrt.proofs.Excess.{zero_high, zero_none, small, larger, negative_high, none, residue_lt}
+use Rattle.sqrt.proofs.Excess.{excess_of, far_is, excess_is}
 use Rattle.sqrt.proofs.certificate.judged.Goals as goal
 
-pub overflow_mul-cross : goal.overflow_mul-cross
-overflow_mul-cross c = rw (and_mask c.args.r 26) (omega (arith, (products c.args.r c.requires.1).cross))
-
-pub overflow_mul-high : goal.overflow_mul-high
-overflow_mul-high c = omega (arith, (products c.args.r c.requires.1).high)
-
-pub returns-then-wrapping_add_u64-ge16 : goal.returns-then-wrapping_add_u64-ge16
-returns-then-wrapping_add_u64-ge16 c =
-    far _ _ _ _ _ c.requires.0 c.requires.1 c.wrapping_sub_u64-top.ensures.value
-    (rw (and_mask c.args.r 26) at c.wrapping_sub_u64-rest.ensures.value)
-    c.wrapping_add_u64.ensures.value c.if-wrapping_add_u64-ge16.true
-
-pub overflow_mul-low : goal.overflow_mul-low
-overflow_mul-low c =
-    rw (and_mask c.args.r 26) (omega (arith, (products c.args.r c.requires.1).low))
+pub returns-then-rest-ge16 : goal.returns-then-rest-ge16
+returns-then-rest-ge16 c =
+    far_is c.args.m c.args.r c.requires.0 c.requires.1 (rw (and_mask c.args.r 26) at c.if-rest-ge16.true)
 
 positive : (n : ℕ) → (n ≡ 0 → ⊥) → 0 < n
 positive n h = omega arith
 
--- the excess, where it is near enough
-reckoned : (c : After-wrapping_add_u64-excess)
-    → Excess (c.args.m * 2 ^ 52) c.args.r c.wrapping_add_u64-excess.result
-reckoned c =
-    excess _ _ _ _ _ c.requires.0 c.requires.1 c.wrapping_sub_u64-top.ensures.value
-    (rw (and_mask c.args.r 26) at c.wrapping_sub_u64-rest.ensures.value)
-    c.wrapping_add_u64.ensures.value
-    c.if-wrapping_add_u64-ge16.false _ _ _
-    (rw (and_mask c.args.r 26) at c.wrapping_sub_u64-less.ensures.value)
-    (rw (and_mask c.args.r 26) at c.wrapping_sub_u64.ensures.value)
-    c.wrapping_add_u64-excess.ensures.value
-
 pub returns-then-r-gt1 : goal.returns-then-r-gt1
 returns-then-r-gt1 c =
-    zero_high _ _ _ c.requires.1 (reckoned c.before.before) c.if-excess-eq0.true
-    c.if-r-gt1.true
+    zero_high _ _ _ c.requires.1
+    (excess_is c.args.m c.args.r c.requires.0 c.requires.1 (rw (and_mask c.args.r 26) at c.if-rest-ge16.false))
+    (rw (and_mask c.args.r 26) at c.if-excess-eq0.true) c.if-r-gt1.true
 
 pub returns-then-excess-eq0 : goal.returns-then-excess-eq0
 returns-then-excess-eq0 c =
-    zero_none _ _ _ c.requires.1 (reckoned c.before.before) c.if-excess-eq0.true
-    c.if-r-gt1.false
+    zero_none _ _ _ c.requires.1
+    (excess_is c.args.m c.args.r c.requires.0 c.requires.1 (rw (and_mask c.args.r 26) at c.if-rest-ge16.false))
+    (rw (and_mask c.args.r 26) at c.if-excess-eq0.true) c.if-r-gt1.false
 
 pub returns-then-excess-r : goal.returns-then-excess-r
 returns-then-excess-r c =
-    small _ _ _ c.requires.1 (reckoned c.before.before) (positive _ c.if-excess-eq0.false)
-    c.if-excess-r.true
+    small _ _ _ c.requires.1
+    (excess_is c.args.m c.args.r c.requires.0 c.requires.1 (rw (and_mask c.args.r 26) at c.if-rest-ge16.false))
+    (positive _ (rw (and_mask c.args.r 26) at c.if-excess-eq0.false))
+    (rw (and_mask c.args.r 26) at c.if-excess-r.true)
 
 pub returns-then-excess-r-2 : goal.returns-then-excess-r-2
 returns-then-excess-r-2 c =
-    larger _ _ _ c.requires.1 (reckoned c.before.before.before) c.if-excess-r.false
-    c.if-excess-r-2.true
+    larger _ _ _ c.requires.1
+    (excess_is c.args.m c.args.r c.requires.0 c.requires.1 (rw (and_mask c.args.r 26) at c.if-rest-ge16.false))
+    (rw (and_mask c.args.r 26) at c.if-excess-r.false)
+    (rw (and_mask c.args.r 26) at c.if-excess-r-2.true)
 
-pub returns-then-wrapping_sub_u64-r : goal.returns-then-wrapping_sub_u64-r
-returns-then-wrapping_sub_u64-r c =
-    let near = c.before.before in
-    negative_high _ _ _ c.requires.1 (reckoned near.before.before.before)
-    c.wrapping_sub_u64-2.result (residue_lt _ _ c.wrapping_add_u64-excess.ensures.value)
-    c.if-excess-r-2.false c.wrapping_sub_u64-2.ensures.value
-    (let z : c.wrapping_sub_u64-2.result < 2 ^ 64 = omega arith in z) c.if-wrapping_sub_u64-r.true
+-- the excess taken from 0
+opposite : (z : ℕ) → z < 2 ^ 64 → ((0 + (2 ^ 64 - z)) % 2 ^ 64 + z) % 2 ^ 64 ≡ 0
+opposite z h = omega arith
+
+pub returns-then-excess-r-3 : goal.returns-then-excess-r-3
+returns-then-excess-r-3 c =
+    negative_high _ _ _ c.requires.1
+    (excess_is c.args.m c.args.r c.requires.0 c.requires.1 (rw (and_mask c.args.r 26) at c.if-rest-ge16.false))
+    ((0 + (2 ^ 64 - excess_of c.args.m c.args.r)) % 2 ^ 64) (residue_lt _ _ refl)
+    (rw (and_mask c.args.r 26) at c.if-excess-r-2.false) (opposite _ (residue_lt _ _ refl)) (residue_lt _ _ refl)
+    (rw (and_mask c.args.r 26) at c.if-excess-r-3.true)
 
 pub returns : goal.returns
 returns c =
-    let near = c.before.before in
-    none _ _ _ c.requires.1 (reckoned near.before.before.before)
-    c.wrapping_sub_u64-2.result (residue_lt _ _ c.wrapping_add_u64-excess.ensures.value)
-    c.if-excess-r-2.false c.wrapping_sub_u64-2.ensures.value
-    (let z : c.wrapping_sub_u64-2.result < 2 ^ 64 = omega arith in z) c.if-wrapping_sub_u64-r.false
+    none _ _ _ c.requires.1
+    (excess_is c.args.m c.args.r c.requires.0 c.requires.1 (rw (and_mask c.args.r 26) at c.if-rest-ge16.false))
+    ((0 + (2 ^ 64 - excess_of c.args.m c.args.r)) % 2 ^ 64) (residue_lt _ _ refl)
+    (rw (and_mask c.args.r 26) at c.if-excess-r-2.false) (opposite _ (residue_lt _ _ refl)) (residue_lt _ _ refl)
+    (rw (and_mask c.args.r 26) at c.if-excess-r-3.false)

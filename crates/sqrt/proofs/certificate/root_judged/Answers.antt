@@ -25,25 +25,13 @@ radicand_is : (b : ℕ)
     ≡ (b % 2 ^ 52 + 2 ^ 52) * 2 ^ ((b / 2 ^ 52 + 1021) % 2)
 radicand_is b = ap₂ (λ (x y : ℕ). (x + 2 ^ 52) * 2 ^ y) (fraction_is b) (parity_is b)
 
--- c is half the exponent and r
-pattern_is : (b c r : ℕ) → 2 ^ 52 ≤ b → b < 0x7ff0_0000_0000_0000 → r < 2 ^ 53
-    → (r + ((b + 0x3ff0_0000_0000_0000) / 2 ^ 53 - 1) * 2 ^ 52 % 2 ^ 64) % 2 ^ 64 ≡ c → IsPattern b r c
-pattern_is b c r h g l e = omega arith
+-- what is left of c without half the exponent of b
+abbrev rest : ℕ → ℕ → ℕ
+rest b c = (c + (2 ^ 64 - ((b + 0x3ff0_0000_0000_0000) / 2 ^ 53 - 1) * 2 ^ 52 % 2 ^ 64)) % 2 ^ 64
 
--- where r is out of range, no other is in range
-no_pattern : (b c r s : ℕ) → 2 ^ 52 ≤ b → b < 0x7ff0_0000_0000_0000 → 2 ^ 53 ≤ r → r < 2 ^ 64
-    → (r + ((b + 0x3ff0_0000_0000_0000) / 2 ^ 53 - 1) * 2 ^ 52 % 2 ^ 64) % 2 ^ 64 ≡ c → s < 2 ^ 53 → IsPattern b s c → ⊥
-no_pattern b c r s h g l f e k q = omega arith
-
-pub returns-then-r-ge9007199254740992 : goal.returns-then-r-ge9007199254740992
-returns-then-r-ge9007199254740992 c =
-    let rest = c.wrapping_sub_u64-r in
-    λ s l q. absurd
-    (no_pattern c.args.b c.args.c rest.result s c.requires.0 c.requires.1
-    c.if-r-ge9007199254740992.true (omega arith) rest.ensures.value l q)
-
-pub radicand-requires : goal.radicand-requires
-radicand-requires c = omega (arith, and_mask (c.args.b + 0x3ff0_0000_0000_0000) 53)
+pattern_is : (b c : ℕ) → 2 ^ 52 ≤ b → b < 0x7ff0_0000_0000_0000 → c < 2 ^ 64 → rest b c < 2 ^ 53
+    → IsPattern b (rest b c) c
+pattern_is b c h g f l = omega arith
 
 masked : (b d : ℕ)
     → d ≡ (bit_and (b + 0x3ff0_0000_0000_0000) 0x1f_ffff_ffff_ffff % 2 ^ 52 + 2 ^ 52)
@@ -87,9 +75,8 @@ certified b c r h g e v i =
 
 pub returns : goal.returns
 returns c =
-    let r = c.wrapping_sub_u64-r.result in
-    certified c.args.b c.args.c r c.requires.0 c.requires.1
-    (pattern_is c.args.b c.args.c r c.requires.0 c.requires.1
-    c.if-r-ge9007199254740992.false c.wrapping_sub_u64-r.ensures.value)
-    c.judged.result
-    (c.judged.ensures ∙ ap (λ (x : ℕ). verdict_of (x * 2 ^ 52) r) (masked c.args.b c.radicand.result c.radicand.ensures))
+    let b = c.args.b in
+    certified b c.args.c (rest b c.args.c) c.requires.0 c.requires.1
+    (pattern_is b c.args.c c.requires.0 c.requires.1 c.ranges.c.fits c.if-r-ge9007199254740992.false) c.judged.result
+    (c.judged.ensures
+    ∙ ap (λ (x : ℕ). verdict_of (x * 2 ^ 52) (rest b c.args.c)) (masked b c.radicand.result c.radicand.ensures))

@@ -27,10 +27,6 @@ returns-then-c-gt4607182418800017408 c = record {
   sure = λ t l g e o w. absurd (let z : ⊥ = omega arith in z);
 }
 
-pub between-requires : goal.between-requires
-between-requires c =
-    (omega arith, omega arith, omega arith, c.target.ensures.high_fits, c.target.ensures.low_fits)
-
 -- there is one number 1 + t
 one_plus : (sign t e f : ℕ) → IsOnePlus sign t e → IsOnePlus sign t f → e ≡ f
 one_plus zero t e f p q = p ∙ sym q

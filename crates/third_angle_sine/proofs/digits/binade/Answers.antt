@@ -20,14 +20,11 @@ loop-e-init c = (omega arith, below_half (units c.args.t) c.requires.0)
 pub compared-requires : goal.compared-requires
 compared-requires c = ((omega arith, omega arith, omega arith, omega arith), omega arith)
 
-pub returns-then-is_ge : goal.returns-then-is_ge
-returns-then-is_ge c = (
-  omega arith,
-  omega arith,
-  found (units c.args.t) c.loop-e.e
-      (ge_true (scaled 0 (units c.args.t) c.loop-e.e (2 ^ 53))
-      (ap is_ge (sym c.compared.ensures) ∙ sym c.is_ge.ensures ∙ c.if-is_ge.true)) c.loop-e.invariant.1,
-)
+pub returns-then-is_ge-clause-in_binade : goal.returns-then-is_ge-clause-in_binade
+returns-then-is_ge-clause-in_binade c =
+    found (units c.args.t) c.loop-e.e
+    (ge_true (scaled 0 (units c.args.t) c.loop-e.e (2 ^ 53))
+    (ap is_ge (sym c.compared.ensures) ∙ sym c.is_ge.ensures ∙ c.if-is_ge.true)) c.loop-e.invariant.1
 
 pub loop-e-preserved : goal.loop-e-preserved
 loop-e-preserved c =
@@ -39,12 +36,9 @@ loop-e-preserved c =
           (ap is_ge (sym c.compared.ensures) ∙ sym c.is_ge.ensures ∙ c.if-is_ge.false)),
     )
 
-pub returns : goal.returns
-returns c =
+pub returns-clause-in_binade : goal.returns-clause-in_binade
+returns-clause-in_binade c =
     let u = units c.args.t in
-    let z : c.loop-e.e ≡ 27 = omega arith in (
-      omega arith,
-      omega arith,
-      found u 27 (above_least u c.requires.1)
-          (subst (λ (x : ℕ). Above (2 ^ 54) (scaled 0 u x)) z c.loop-e.invariant.1),
-    )
+    let z : c.loop-e.e ≡ 27 = omega arith in
+    found u 27 (above_least u c.requires.1)
+    (subst (λ (x : ℕ). Above (2 ^ 54) (scaled 0 u x)) z c.loop-e.invariant.1)

@@ -11,8 +11,6 @@ use Rattle.angle.proofs.Values.{size_pos, size_most}
 use Rattle.third_angle_sine.proofs.Rounding.{scaled, above_half, rounded_pattern}
 use Rattle.third_angle_sine.proofs.digits.sine_pattern.Goals as goal
 
--- `third_angle_sine::digits::sine_pattern` meets its contract. Assumes nothing.
-
 -- what a significand r in the binade of e gives, where v is the size of t
 module _ (sign m e v r : ℕ) (bit : sign < 2) (least : 0x3c80_0000_0000_0000 ≤ m) (below : m < 0x3ff0_0000_0000_0000)
     (small : e < 28) (size : v ≡ size_of m) (rounds : RoundsTo (scaled sign v e) r) where
@@ -53,7 +51,7 @@ overflow_add-result c =
     omega (
       arith,
       (shifted c.args.t.sign c.args.t.m c.binade-e.result _ c.rounded_by_digits.result
-          c.args.t.sign_bit c.args.t.least c.args.t.below c.binade-e.ensures.1
+          c.args.t.sign_bit c.args.t.least c.args.t.below c.binade-e.ensures.bound.1
           c.size-u.ensures
           (is_zero c.args.t.sign c.rounded_by_digits.result _ c.binade-e.result
           c.if-t-eq0.true c.rounded_by_digits.ensures)).0,
@@ -62,7 +60,7 @@ overflow_add-result c =
 pub returns-then-t-eq0 : goal.returns-then-t-eq0
 returns-then-t-eq0 c =
     shifted c.args.t.sign c.args.t.m c.binade-e.result _ c.rounded_by_digits.result
-    c.args.t.sign_bit c.args.t.least c.args.t.below c.binade-e.ensures.1
+    c.args.t.sign_bit c.args.t.least c.args.t.below c.binade-e.ensures.bound.1
     c.size-u.ensures
     (is_zero c.args.t.sign c.rounded_by_digits.result _ c.binade-e.result
     c.if-t-eq0.true c.rounded_by_digits.ensures)
