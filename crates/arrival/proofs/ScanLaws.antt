@@ -6,7 +6,8 @@ use mathlib.Core.Path.{◌≡◌, refl, sym, ◌∙◌, subst}
 use mathlib.Core.Bool.{Bool, true, false, cond, not, ◌&&◌, ◌||◌, true≢false}
 use mathlib.Core.Logic.{◌⊎◌, inl, inr, ⊎_elim}
 use mathlib.Core.List.{List}
-use Rattle.std.specs.Prelude.{Some, None}
+use Rattle.std.specs.Prelude.{Some, None, MatchOption}
+use Rattle.std.specs.Bool.{then_some}
 use Rattle.std.specs.Option.{option_or}
 use borrow.Author.Tests.{ltb-false, eqb-true, eqb-false, eq-eqb, not-false}
 use lib.Dec.{eqb, ltb}
@@ -24,7 +25,8 @@ use Rattle.doubles.proofs.UnsignedLaws.{left_number, right_number, finite_number
 use Rattle.doubles.proofs.UnsignedLaws.{zero_unsigned, unsigned_not_negative, above_unsigned}
 use Rattle.arrival.specs.Axes.{axis_of, missing, blocks, free, ends_at, has, wrong_axis}
 use Rattle.arrival.specs.Arrivals.{wrong_count, WellFormed, FreeForAll, Earliest}
-use Rattle.arrival.specs.Steps.{past, above, Time, Among, Latest, Reached, Passed, Lowest}
+use Rattle.arrival.specs.Steps.{past, above, Time, Among, Latest, Reached, Passed}
+use Rattle.arrival.specs.Steps.{Found, NeverFound, NoneHas, Lowest}
 use Rattle.arrival.specs.declared.axis.Axis.{Axis}
 
 pub clash : {X : Type 0} {b : Bool} → b ≡ true → b ≡ false → X
@@ -421,30 +423,37 @@ module _ (durations ends : List Float) where
   finite_below (inf true) s h e i = absurd (true≢false (unsigned_not_negative (inf true) h.unsigned))
   finite_below (fin u m k) s h e i = clash refl e
 
-  pub never : {t : Float} → Passed durations ends (length durations) t → finite t ≡ false
+  never : {t : Float} → Passed durations ends (length durations) t → finite t ≡ false
       → (s : Float) → Finite s → FreeForAll durations ends s → ⊥
   never {t} h e s i = h.reached.no_smaller s (finite_below t s h.reached.time e i)
 
+  -- so it is the earliest if it is finite, else there is none
+  pub found : {t : Float} → Passed durations ends (length durations) t
+      → MatchOption (then_some (finite t) t) (NeverFound durations ends) (λ s. Found durations ends s)
+  found {t} h = go (finite t) refl
+    where
+      go : (b : Bool) → finite t ≡ b
+          → MatchOption (then_some b t) (NeverFound durations ends) (λ s. Found durations ends s)
+      go true e = record { finite = holds (finite t) e; passed = h }
+      go false e = never h e
+
   -- ---- the lowest axis
 
-  -- an axis has the time, so the lowest that has it is there
-  lowest_there : (t : Float) (k : ℕ) → Reached durations ends t → Lowest durations ends t k → k < length durations
-  lowest_there t k h l = ⊎_elim
-      (λ (e : k ≡ length durations). clash h.has_it (l.lowest h.axis (omega (arith, h.there))))
-      (λ (g : k < length durations). g)
-      (eq-or-lt_of_le l.most)
+  -- an axis has the time, so it isn't so that none has
+  pub some_has : {t : Float} → Reached durations ends t → NoneHas durations ends t (length durations) → ⊥
+  some_has h none = clash h.has_it (none h.axis h.there)
 
-  pub earliest : {t : Float} {k : ℕ} → Passed durations ends (length durations) t → Fits t → finite t ≡ true
-      → Lowest durations ends t k → Earliest durations ends t k
-  earliest {t} {k} h f e l =
-      let there = lowest_there t k h.reached l in
+  pub earliest : {t : Float} {k : ℕ} → Fits t → Found durations ends t → Lowest durations ends t k
+      → Earliest durations ends t k
+  earliest {t} {k} d f l =
+      let h = f.passed in
       record {
-        double = f;
-        finite = holds (finite t) e;
+        double = d;
+        finite = f.finite;
         not_minus_zero = h.reached.time.unsigned;
         free = ends_free t h;
         no_smaller = h.reached.no_smaller;
-        there = there;
-        has_it = l.has_it there;
+        there = l.there;
+        has_it = l.has_it;
         lowest = l.lowest;
       }

@@ -1,11 +1,12 @@
 -- The steps of the scan. Definitions only.
-use Rattle.std.specs.Prelude.{ℕ, zero, suc, ◌+◌, ◌<◌, ◌≤◌, ◌≡◌, true, false, cond, ◌&&◌, List, ◌⊎◌, length, Float}
+use Rattle.std.specs.Prelude.{ℕ, zero, suc, ◌+◌, ◌<◌, ◌≡◌, true, false, cond, ◌&&◌, List, ◌⊎◌, length, Float}
 use Rattle.std.specs.Prelude.{Option, Some, None}
 use Rattle.std.specs.Option.{option_or}
 use Rattle.std.specs.Float.Ieee.{is_nan}
 use Rattle.doubles.specs.Operators.{◌<ᶠ◌, at}
 use Rattle.doubles.specs.Constants.{0ᶠ}
 use Rattle.doubles.specs.Functions.{absᶠ}
+use Rattle.doubles.specs.Value.{Finite}
 use Rattle.arrival.specs.Axes.{axis_of, has}
 use Rattle.arrival.specs.Arrivals.{FreeForAll}
 use Rattle.arrival.specs.declared.axis.Axis.{Axis}
@@ -55,8 +56,21 @@ module _ (durations ends : List Float) where
     pub reached : Reached t
     pub outside : (i : ℕ) → i < n → past (axis_of durations ends i) t ≡ None
 
-  -- the lowest axis that has t, or the number of axes
+  -- that is free for all, and finite
+  pub record Found (t : Float) : Type 0 where
+    pub finite : Finite t
+    pub passed : Passed (length durations) t
+
+  -- no finite time is
+  abbrev pub NeverFound : Type 0
+  NeverFound = (t : Float) → Finite t → FreeForAll durations ends t → ⊥
+
+  -- none of the first n axes has t
+  abbrev pub NoneHas : Float → ℕ → Type 0
+  NoneHas t n = (i : ℕ) → i < n → has (axis_of durations ends i) t ≡ false
+
+  -- the lowest axis that has t
   pub record Lowest (t : Float) (k : ℕ) : Type 0 where
-    pub most : k ≤ length durations
-    pub has_it : k < length durations → has (axis_of durations ends k) t ≡ true
-    pub lowest : (i : ℕ) → i < k → has (axis_of durations ends i) t ≡ false
+    pub there : k < length durations
+    pub has_it : has (axis_of durations ends k) t ≡ true
+    pub lowest : NoneHas t k

@@ -29,7 +29,7 @@ impl Stretch {
         !self.is_missing()
             & (!doubles::is_finite(self.left)
                 | (self.left < duration)
-                | (self.right != self.right)
+                | self.right.is_nan()
                 | (self.right < self.left))
     }
 

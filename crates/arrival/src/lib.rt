@@ -22,14 +22,9 @@ pub fn arrival(durations: &[f64], ends: &[f64]) -> Result<Arrival, Refusal>
     ensures { IsArrival durations.now ends.now result }
 {
     let axes = Axes::new(durations, ends)?;
-    let time = axes.earliest();
-    if !doubles::is_finite(time) {
-        return Err(Refusal::NeverFree);
-    }
-    Ok(Arrival {
-        time,
-        axis: axes.lowest(time),
-    })
+    let time = axes.earliest().ok_or(Refusal::NeverFree)?;
+    let axis = axes.lowest(time).unwrap() as u64;
+    Ok(Arrival { time, axis })
 }
 
 // The numbers of the code are those of the definitions.

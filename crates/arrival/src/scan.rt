@@ -1,13 +1,14 @@
 // All axes of two slices.
 
-ghost use Rattle.std.specs.Prelude.{◌≡◌, ◌*◌, ◌<◌, length, IfOk, IfErr};
+ghost use Rattle.std.specs.Prelude.{◌≡◌, ◌*◌, ◌<◌, length, IfOk, IfErr, MatchOption};
 ghost use Rattle.arrival.specs.Axes.{ends_length, axis_of};
 ghost use Rattle.arrival.specs.Arrivals.{WellFormed};
-ghost use Rattle.arrival.specs.Steps.{Latest, Passed, Lowest};
+ghost use Rattle.arrival.specs.Steps.{Latest, Found, NeverFound, NoneHas, Lowest};
 
 use crate::axis::{AXES_MOST, Axis, ENDS_LENGTH, Stretch};
 use refusals::Refusal;
 
+// Beside the method `axis`, because `new` reads the axes before they are known to be an `Axes`.
 #[tactic(auto, unfolding(crate::specs::Axes::axis_of))]
 fn axis_at(durations: &[f64], ends: &[f64], i: usize) -> Axis
     requires i_in_bounds { i < length durations.now }
@@ -78,11 +79,12 @@ impl<'a> Axes<'a> {
         time
     }
 
-    // The earliest time that is free for all axes, infinity where no finite one is. From the largest duration on,
-    // whenever an axis has the time inside a stretch, the scan goes on at that stretch's right end, from the first axis
-    // again.
-    pub fn earliest(&self) -> f64
-        ensures { Passed self.now.durations.now self.now.ends.now (length self.now.durations.now) result }
+    // The earliest time that is free for all axes. From the largest duration on, whenever an axis has the time inside a
+    // stretch, the scan goes on at that stretch's right end, from the first axis again.
+    pub fn earliest(&self) -> Option<f64>
+        ensures { MatchOption result
+            (NeverFound self.now.durations.now self.now.ends.now)
+            (λ time. Found self.now.durations.now self.now.ends.now time) }
     {
         let mut time = self.latest();
         let mut axes = 0..self.durations.len();
@@ -92,18 +94,20 @@ impl<'a> Axes<'a> {
                 axes = 0..self.durations.len();
             }
         }
-        time
+        doubles::is_finite(time).then_some(time)
     }
 
-    // The lowest axis that has the time as its shortest duration or as a right end; the number of axes where none has.
-    pub fn lowest(&self, time: f64) -> u64
-        ensures { Lowest self.now.durations.now self.now.ends.now time result }
+    // The lowest axis that has the time as its shortest duration or as a right end.
+    pub fn lowest(&self, time: f64) -> Option<usize>
+        ensures { MatchOption result
+            (NoneHas self.now.durations.now self.now.ends.now time (length self.now.durations.now))
+            (λ i. Lowest self.now.durations.now self.now.ends.now time i) }
     {
         for i in 0..self.durations.len() {
             if self.axis(i).has(time) {
-                return i as u64;
+                return Some(i);
             }
         }
-        self.durations.len() as u64
+        None
     }
 }

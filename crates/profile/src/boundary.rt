@@ -7,6 +7,7 @@ use crate::{ControlSigns, Direction, Profile, ReachedLimits, Start, Target};
 
 impl Profile {
     // All doubles 0, UP, UDDU, limits None.
+    #[tactic(auto, unfolding(crate::specs::Boundary::empty_profile))]
     pub fn empty() -> Profile
         ensures { result ≡ empty_profile }
     {
@@ -49,6 +50,7 @@ impl Profile {
     }
 
     // The profile with another start and target. Its durations stay.
+    #[tactic(auto, unfolding(crate::specs::Boundary::with_boundary))]
     pub fn with_boundary(self, start: Start, target: Target) -> Profile
         ensures { result ≡ boundary_set self start target }
     {
@@ -63,6 +65,7 @@ impl Profile {
     }
 
     // The profile with the start, the target and the durations of another.
+    #[tactic(auto, unfolding(crate::specs::Boundary::with_boundary))]
     pub fn with_boundary_from_profile(self, other: Profile) -> Profile
         ensures { result ≡ boundary_from self other }
     {

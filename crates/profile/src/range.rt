@@ -18,6 +18,7 @@ impl Direction {
 }
 
 impl Limits {
+    #[tactic(auto, unfolding(crate::specs::Limits::swapped_limits))]
     pub fn swapped(self) -> Limits
         ensures { result ≡ swapped_limits self }
     {
@@ -30,6 +31,7 @@ impl Limits {
         }
     }
 
+    #[tactic(auto, unfolding(crate::specs::Limits::direction_of))]
     pub fn direction(self) -> Direction
         ensures { result ≡ direction_of self }
     {
@@ -40,6 +42,7 @@ impl Limits {
         }
     }
 
+    #[tactic(auto, unfolding(crate::specs::Limits::bounds_of))]
     pub fn bounds(self) -> Bounds
         ensures { result ≡ bounds_of self }
     {

@@ -125,6 +125,7 @@ pub fn put_double<const N: usize>(line: &mut ArrayVec<u8, N>, x: f64)
     put_field(line, &hex(x));
 }
 
+#[tactic(auto, unfolding(crate::specs::Fields::double_fields))]
 pub fn put_doubles<const N: usize>(line: &mut ArrayVec<u8, N>, doubles: &[f64])
     requires { array_vec_len line.old + double_width * length doubles.now ≤ N }
     ensures { Appends line.old line.new (double_fields doubles.now) (double_width * length doubles.now) }
@@ -134,6 +135,7 @@ pub fn put_doubles<const N: usize>(line: &mut ArrayVec<u8, N>, doubles: &[f64])
     }
 }
 
+#[tactic(auto, unfolding(crate::specs::Fields::profile_fields, crate::specs::Fields::name_fields))]
 pub fn put_profile_fields<const N: usize>(line: &mut ArrayVec<u8, N>, q: Profile)
     requires { array_vec_len line.old + profile_width ≤ N }
     ensures { Appends line.old line.new (profile_fields q) profile_width }

@@ -23,6 +23,7 @@ pub struct Rows {
 }
 
 // The time up to the end of each phase.
+#[tactic(auto, unfolding(crate::specs::Rows::sums))]
 pub fn sums_of(t: [f64; 7]) -> [f64; 7]
     ensures { result ≡ sums t }
 {
@@ -36,12 +37,14 @@ pub fn sums_of(t: [f64; 7]) -> [f64; 7]
 }
 
 // j in a phase whose time is above 0, else 0.
+#[tactic(auto, unfolding(crate::specs::Rows::jerk_if))]
 fn jerk_if(t: f64, j: f64) -> f64
     ensures { result ≡ jerk_if t j }
 {
     if t > 0.0 { j } else { 0.0 }
 }
 
+#[tactic(auto, unfolding(crate::specs::Rows::jerks))]
 pub fn jerks_of(control_signs: ControlSigns, t: [f64; 7], jf: f64) -> [f64; 7]
     ensures { result ≡ jerks control_signs t jf }
 {
@@ -54,6 +57,7 @@ pub fn jerks_of(control_signs: ControlSigns, t: [f64; 7], jf: f64) -> [f64; 7]
 }
 
 // The row after a phase of t seconds at the jerk j.
+#[tactic(auto, unfolding(crate::specs::Rows::row_after))]
 pub fn row_after(r: Row, t: f64, j: f64) -> Row
     ensures { result ≡ row_after r t j }
 {
@@ -65,6 +69,7 @@ pub fn row_after(r: Row, t: f64, j: f64) -> Row
 }
 
 // The row with a stored as its acceleration, if so said.
+#[tactic(auto, unfolding(crate::specs::Rows::stored_if))]
 fn stored_if(b: bool, a: f64, r: Row) -> Row
     ensures { result ≡ stored_if b a r }
 {
@@ -72,6 +77,7 @@ fn stored_if(b: bool, a: f64, r: Row) -> Row
 }
 
 // Row 1 or 5, as the check keeps it.
+#[tactic(auto, unfolding(crate::specs::Rows::outer_row))]
 pub fn outer_row(reached: ReachedLimits, set_limits: bool, limit: f64, r: Row) -> Row
     ensures { result ≡ outer_row reached set_limits limit r }
 {
@@ -79,6 +85,7 @@ pub fn outer_row(reached: ReachedLimits, set_limits: bool, limit: f64, r: Row) -
 }
 
 // Row 3, as the check keeps it.
+#[tactic(auto, unfolding(crate::specs::Rows::middle_row))]
 pub fn middle_row(reached: ReachedLimits, set_limits: bool, a_min: f64, r: Row) -> Row
     ensures { result ≡ middle_row reached set_limits a_min r }
 {
@@ -86,6 +93,7 @@ pub fn middle_row(reached: ReachedLimits, set_limits: bool, a_min: f64, r: Row) 
     stored_if(set_limits & reached.is_acc1(), a_min, cleared)
 }
 
+#[tactic(auto, unfolding(crate::specs::Rows::rows_of))]
 pub fn rows_of(
     start: Start,
     t: [f64; 7],

@@ -1,25 +1,17 @@
 -- `arrival::arrival` meets its contract. Assumes nothing.
+use Rattle.std.proofs.Common.{rules}
 use denote.Floats.{passes}
-use mathlib.Core.Path.{refl, sym, ◌∙◌}
-use mathlib.Core.Logic.{inr}
-use Rattle.arrival.proofs.ScanLaws.{never, earliest}
+use Rattle.doubles.specs.Value.{Fits}
+use Rattle.arrival.specs.Steps.{Found, Lowest}
+use Rattle.arrival.proofs.ScanLaws.{earliest}
 use Rattle.arrival.proofs.arrival.Goals as goal
-
-pub returns-then-not-is_finite : goal.returns-then-not-is_finite
-returns-then-not-is_finite c =
-    let same = c.in_ok-axes.ensures.ok in
-    rw (← same.0, ← same.1)
-    (inr (
-      refl,
-      c.in_ok-axes.axes.well_formed,
-      never _ _ c.earliest-time.ensures (sym c.is_finite.ensures ∙ c.if-not-is_finite.true),
-    ))
 
 pub returns : goal.returns
 returns c =
     let same = c.in_ok-axes.ensures.ok in
-    rw (← same.0, ← same.1) (
-      c.in_ok-axes.axes.well_formed,
-      earliest _ _ c.earliest-time.ensures (passes _ c.earliest-time.type_inv)
-          (sym c.is_finite.ensures ∙ c.if-not-is_finite.false) c.lowest.ensures,
-    )
+    let axes = c.in_ok-axes.axes in
+    let found : Found axes.durations.now axes.ends.now c.in_ok-time.time = search rules in
+    let lowest : Lowest axes.durations.now axes.ends.now c.in_ok-time.time c.unwrap-axis.result =
+    rw c.unwrap-axis.ensures at c.lowest.ensures in
+    let double : Fits c.in_ok-time.time = search passes in
+    rw (← same.0, ← same.1) (axes.well_formed, earliest _ _ double found lowest)

@@ -1,12 +1,7 @@
 -- `profile_lines::put_doubles` meets its contract: the first of the doubles are appended. Assumes nothing.
 use Rattle.std.proofs.Common.{arith}
-use Rattle.profile_lines.specs.Fields.{double_fields}
-use Rattle.profile_lines.proofs.PutLaws.{nothing, then, within, one_more_double}
+use Rattle.profile_lines.proofs.PutLaws.{then, within, one_more_double}
 use Rattle.profile_lines.proofs.put_doubles.Goals as goal
-
-pub loop-x-init : goal.loop-x-init
-unfolding double_fields
-loop-x-init g c = nothing
 
 pub loop-x-preserved : goal.loop-x-preserved
 loop-x-preserved g c =

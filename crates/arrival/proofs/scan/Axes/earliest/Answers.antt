@@ -6,7 +6,7 @@ use native.Mathlib.Omega.{arith}
 use Rattle.std.specs.Prelude.{Some, None}
 use Rattle.arrival.specs.Axes.{axis_of}
 use Rattle.arrival.specs.Steps.{past}
-use Rattle.arrival.proofs.ScanLaws.{none_passed, one_passed, all_passed, again, fewer_turns}
+use Rattle.arrival.proofs.ScanLaws.{none_passed, one_passed, all_passed, again, fewer_turns, found}
 use Rattle.arrival.proofs.scan.Axes.earliest.Goals as goal
 
 pub loop-i-init : goal.loop-i-init
@@ -36,4 +36,6 @@ loop-i-preserved c =
     (omega arith, omega arith, rw next.2 (one_passed _ _ _ _ c.loop-i.invariant.2 outside))
 
 pub returns : goal.returns
-returns c = all_passed _ _ c.loop-i.invariant.2 (omega (arith, c.in_default.ensures.steps.1.0))
+returns c =
+    let through = all_passed _ _ c.loop-i.invariant.2 (omega (arith, c.in_default.ensures.steps.1.0)) in
+    rw (c.then_some.ensures, c.is_finite.ensures) (found _ _ through)
