@@ -1,5 +1,5 @@
 -- The corrections of a root of the try ACC1 (regarding pd): one to three Newton steps. Definitions only.
-use Rattle.std.specs.Prelude.{cond, Float}
+use Rattle.std.specs.Prelude.{cond, Float, Option, Some, None}
 use Rattle.std.specs.Float.{binary64}
 use Rattle.std.specs.Float.Ieee.{of_bits}
 use Rattle.doubles.specs.Operators.{◌+ᶠ◌, ◌-ᶠ◌, ◌*ᶠ◌, ◌/ᶠ◌, -ᶠ◌, ◌<ᶠ◌}
@@ -49,6 +49,10 @@ module _ (start : Start) (k : Constants) (m : Limits) (h0-acc1 h2-acc1 : Float) 
   -- the only correction that t bounds: it leaves no negative root, and 0 for a NaN
   unfoldable pub first_correction_acc1 : Float → Float
   first_correction_acc1 t = t -ᶠ minᶠ (orig t /ᶠ deriv t) t
+
+  -- the second or the third, where t needs one
+  abbrev pub further_correction_acc1 : Float → Option Float
+  further_correction_acc1 t = cond (1e-9ᶠ <ᶠ absᶠ (orig t)) (Some (t -ᶠ orig t /ᶠ deriv t)) None
 
   unfoldable pub third_correction_acc1 : Float → Float
   third_correction_acc1 t = cond (1e-9ᶠ <ᶠ absᶠ (orig t)) (t -ᶠ orig t /ᶠ deriv t) t

@@ -48,6 +48,7 @@ pub fn range_acc0(target: Target, m: Limits) -> RootRange
     }
 }
 
+// The Rust's formula line by line, of which each try has its own (entry 76 of docs/DECISIONS.md).
 #[tactic(auto, unfolding(crate::specs::TimeAcc0::polynom_acc0))]
 pub fn polynom_acc0(k: Constants, m: Limits, h0_acc0: f64, h2_acc0: f64) -> Quartic
     ensures { result ≡ polynom_acc0 k m h0_acc0 h2_acc0 }
@@ -64,7 +65,8 @@ pub fn polynom_acc0(k: Constants, m: Limits, h0_acc0: f64, h2_acc0: f64) -> Quar
     }
 }
 
-// A single Newton step (regarding pd).
+// A single Newton step (regarding pd), by the Rust's formula, which the other tries don't share (entry 76 of
+// docs/DECISIONS.md).
 #[tactic(auto, unfolding(crate::specs::TimeAcc0::newton_acc0))]
 fn newton_acc0(k: Constants, m: Limits, h0_acc0: f64, h2_acc0: f64, t: f64) -> f64
     ensures { result ≡ newton_acc0 k m h0_acc0 h2_acc0 t }
@@ -76,7 +78,8 @@ fn newton_acc0(k: Constants, m: Limits, h0_acc0: f64, h2_acc0: f64, t: f64) -> f
     t - delta_t
 }
 
-// A root above EPSILON is corrected once.
+// A root above EPSILON is corrected once. The test stands in each of the three tries: a function that is given the step
+// would be no shorter, and its contract two clauses about a step that it doesn't know.
 #[tactic(auto, unfolding(crate::specs::TimeAcc0::corrected_acc0))]
 pub fn corrected_acc0(k: Constants, m: Limits, h0_acc0: f64, h2_acc0: f64, t: f64) -> f64
     ensures { result ≡ corrected_acc0 k m h0_acc0 h2_acc0 t }

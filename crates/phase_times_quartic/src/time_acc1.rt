@@ -39,6 +39,7 @@ pub fn h2_acc1(start: Start, k: Constants, m: Limits) -> f64
     k.a0_a0 - start.a0 * m.a_min + 2.0 * m.j_max * start.v0
 }
 
+// The Rust's formula line by line, of which each try has its own (entry 76 of docs/DECISIONS.md).
 #[tactic(auto, unfolding(crate::specs::TimeAcc1::polynom_acc1))]
 pub fn polynom_acc1(start: Start, k: Constants, m: Limits, h0_acc1: f64, h2_acc1: f64) -> Quartic
     ensures { result ≡ polynom_acc1 start k m h0_acc1 h2_acc1 }

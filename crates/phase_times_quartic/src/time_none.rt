@@ -16,6 +16,7 @@ pub fn h2_none(start: Start, target: Target, k: Constants, m: Limits) -> f64
     (k.a0_a0 - k.af_af) / (2.0 * m.j_max) + (target.vf - start.v0)
 }
 
+// The Rust's formula line by line, of which each try has its own (entry 76 of docs/DECISIONS.md).
 #[tactic(auto, unfolding(crate::specs::TimeNone::polynom_none))]
 pub fn polynom_none(start: Start, target: Target, k: Constants, m: Limits, h2_none: f64) -> Quartic
     ensures { result ≡ polynom_none start target k m h2_none }
@@ -36,7 +37,8 @@ pub fn polynom_none(start: Start, target: Target, k: Constants, m: Limits, h2_no
     }
 }
 
-// A single Newton step (regarding pd).
+// A single Newton step (regarding pd), by the Rust's formula, which the other tries don't share (entry 76 of
+// docs/DECISIONS.md).
 #[tactic(auto, unfolding(crate::specs::TimeNone::newton_none))]
 fn newton_none(start: Start, target: Target, k: Constants, m: Limits, h2_none: f64, t: f64) -> f64
     ensures { result ≡ newton_none start target k m h2_none t }
@@ -56,7 +58,8 @@ fn newton_none(start: Start, target: Target, k: Constants, m: Limits, h2_none: f
     t - delta_t
 }
 
-// A root above EPSILON is corrected once.
+// A root above EPSILON is corrected once. The test stands in each of the three tries: a function that is given the step
+// would be no shorter, and its contract two clauses about a step that it doesn't know.
 #[tactic(auto, unfolding(crate::specs::TimeNone::corrected_none))]
 pub fn corrected_none(
     start: Start,

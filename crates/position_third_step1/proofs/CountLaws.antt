@@ -14,12 +14,8 @@ use Rattle.phase_times.specs.TimeAllSingleStep.{starts_at_target}
 use Rattle.phase_times.specs.TimeAllSingleStep.{times_at_constant_speed, zero_times}
 use Rattle.phase_times.specs.declared.constants.Constants.{Constants}
 use Rattle.position_third_step1.specs.Slots.{Slot, always}
-use Rattle.position_third_step1.specs.TimeAllVel.{all_vel_slots}
 use Rattle.position_third_step1.specs.TimeAcc0Acc1.{acc0_acc1_solutions, acc0_acc1_slots}
 use Rattle.position_third_step1.specs.TimeAllNoneAcc0Acc1.{none_shared, acc0_shared, acc1_shared}
-use Rattle.position_third_step1.specs.TimeAllNoneAcc0Acc1.{none_slots, acc0_slots, acc1_slots}
-use Rattle.position_third_step1.specs.TwoStep.{none_two_step_slots, acc0_two_step_slots, vel_two_step_slots}
-use Rattle.position_third_step1.specs.TwoStep.{acc1_vel_two_step_slots}
 use Rattle.position_third_step1.specs.TimeAllSingleStep.{accelerated_slots, single_step_slots}
 use Rattle.position_third_step1.specs.Families.{shared_of, slots_of}
 use Rattle.position_third_step1.specs.declared.families.Shared.{Shared}
@@ -62,8 +58,7 @@ jerkless start target k s =
 -- at most four
 pub four_slots : (start : Start) (target : Target) (k : Constants) (m : Limits) (f : Family)
     → length (slots_of start target k m f (shared_of start target k m f)) ≤ 4
-unfolding slots_of shared_of all_vel_slots always none_slots acc0_slots acc1_slots none_two_step_slots acc0_two_step_slots
-    vel_two_step_slots acc1_vel_two_step_slots none_shared acc0_shared acc1_shared
+unfolding slots_of shared_of always none_shared acc0_shared acc1_shared
 four_slots start target k m AllVel = omega arith
 four_slots start target k m None = rw (root_slots_law _ _ _) (four_roots _ _)
 four_slots start target k m Acc0 = rw (root_slots_law _ _ _) (four_roots _ _)

@@ -33,13 +33,10 @@ use Rattle.phase_times.specs.declared.constants.Constants.{Constants}
 use Rattle.phase_times_quartic.specs.declared.root_range.RootRange.{RootRange}
 use Rattle.position_third_step1.specs.CheckTree.{found, tries, try_of, TryWith, only_if}
 use Rattle.position_third_step1.specs.Slots.{Slot, always, held}
-use Rattle.position_third_step1.specs.TimeAllVel.{all_vel_slots, all_vel_tries}
+use Rattle.position_third_step1.specs.TimeAllVel.{all_vel_tries}
 use Rattle.position_third_step1.specs.TimeAcc0Acc1.{acc0_acc1_shared, acc0_acc1_slots, acc0_acc1_tries}
 use Rattle.position_third_step1.specs.TimeAllNoneAcc0Acc1.{none_shared, acc0_shared, acc1_shared, root_slots}
-use Rattle.position_third_step1.specs.TimeAllNoneAcc0Acc1.{none_slots, acc0_slots, acc1_slots}
 use Rattle.position_third_step1.specs.TimeAllNoneAcc0Acc1.{none_tries, acc0_tries, acc1_tries, none_acc0_acc1_tries}
-use Rattle.position_third_step1.specs.TwoStep.{acc1_vel_two_step_slots, acc0_two_step_slots}
-use Rattle.position_third_step1.specs.TwoStep.{vel_two_step_slots, none_two_step_slots}
 use Rattle.position_third_step1.specs.TwoStep.{acc1_vel_two_step_tries, acc0_two_step_tries}
 use Rattle.position_third_step1.specs.TwoStep.{vel_two_step_tries, none_two_step_tries}
 use Rattle.position_third_step1.specs.TimeAllSingleStep.{jerkless_try, single_step_slots, single_step_tries}
@@ -120,23 +117,23 @@ module _ (start : Start) (target : Target) (k : Constants) (m : Limits) where
       (λ t. record { start_is = refl; target_is = refl; jerk_is = refl; limits_is = refl }) ss h
 
   pub all_vel_bounded : Bounded (TryWith start target m.j_max m) 4 (all_vel_tries start target k m)
-  unfolding all_vel_tries all_vel_slots always
+  unfolding all_vel_tries always
   all_vel_bounded = slots_bounded _ _ (omega arith)
 
   pub acc1_vel_two_step_bounded : Bounded (TryWith start target m.j_max m) 1 (acc1_vel_two_step_tries start target k m)
-  unfolding acc1_vel_two_step_tries acc1_vel_two_step_slots always
+  unfolding acc1_vel_two_step_tries always
   acc1_vel_two_step_bounded = slots_bounded _ _ (omega arith)
 
   pub acc0_two_step_bounded : Bounded (TryWith start target m.j_max m) 4 (acc0_two_step_tries start target k m)
-  unfolding acc0_two_step_tries acc0_two_step_slots always
+  unfolding acc0_two_step_tries always
   acc0_two_step_bounded = slots_bounded _ _ (omega arith)
 
   pub vel_two_step_bounded : Bounded (TryWith start target m.j_max m) 2 (vel_two_step_tries start target k m)
-  unfolding vel_two_step_tries vel_two_step_slots always
+  unfolding vel_two_step_tries always
   vel_two_step_bounded = slots_bounded _ _ (omega arith)
 
   pub none_two_step_bounded : Bounded (TryWith start target m.j_max m) 2 (none_two_step_tries start target k m)
-  unfolding none_two_step_tries none_two_step_slots always
+  unfolding none_two_step_tries always
   none_two_step_bounded = slots_bounded _ _ (omega arith)
 
   pub acc0_acc1_bounded : Bounded (TryWith start target m.j_max m) 2 (acc0_acc1_tries start target k m)
@@ -151,15 +148,15 @@ module _ (start : Start) (target : Target) (k : Constants) (m : Limits) where
   roots_bounded reached range times ts h = slots_bounded reached _ (rw (root_slots_length range times ts) h)
 
   pub none_bounded : Bounded (TryWith start target m.j_max m) 4 (none_tries start target k m)
-  unfolding none_tries none_slots none_shared
+  unfolding none_tries none_shared
   none_bounded = roots_bounded _ _ _ _ (four_roots _ _)
 
   pub acc0_bounded : Bounded (TryWith start target m.j_max m) 4 (acc0_tries start target k m)
-  unfolding acc0_tries acc0_slots acc0_shared
+  unfolding acc0_tries acc0_shared
   acc0_bounded = roots_bounded _ _ _ _ (four_roots _ _)
 
   pub acc1_bounded : Bounded (TryWith start target m.j_max m) 4 (acc1_tries start target k m)
-  unfolding acc1_tries acc1_slots acc1_shared
+  unfolding acc1_tries acc1_shared
   acc1_bounded = roots_bounded _ _ _ _ (four_roots _ _)
 
   pub none_acc0_acc1_bounded : Bounded (TryWith start target m.j_max m) 12 (none_acc0_acc1_tries start target k m)

@@ -29,14 +29,11 @@ use Rattle.candidates.specs.declared.Try.{Try}
 use Rattle.position_third_step1.specs.Order.{Shaped, names, kept_roots, root_names}
 use Rattle.position_third_step1.specs.CheckTree.{try_of, only_if}
 use Rattle.position_third_step1.specs.Slots.{always, held, numbers}
-use Rattle.position_third_step1.specs.TimeAllVel.{all_vel_shared, all_vel_slots, all_vel_tries}
+use Rattle.position_third_step1.specs.TimeAllVel.{all_vel_shared, all_vel_tries}
 use Rattle.position_third_step1.specs.TimeAcc0Acc1.{acc0_acc1_solutions}
 use Rattle.position_third_step1.specs.TimeAllNoneAcc0Acc1.{none_shared, acc0_shared, acc1_shared, root_slots}
-use Rattle.position_third_step1.specs.TimeAllNoneAcc0Acc1.{none_slots, acc0_slots, acc1_slots}
 use Rattle.position_third_step1.specs.TimeAllNoneAcc0Acc1.{none_tries, acc0_tries, acc1_tries, none_acc0_acc1_tries}
 use Rattle.position_third_step1.specs.TimeAllSingleStep.{jerkless_try, accelerated_slots}
-use Rattle.position_third_step1.specs.TwoStep.{acc1_vel_two_step_slots, acc0_two_step_slots}
-use Rattle.position_third_step1.specs.TwoStep.{vel_two_step_slots, none_two_step_slots}
 use Rattle.position_third_step1.specs.TwoStep.{acc1_vel_two_step_tries, acc0_two_step_tries}
 use Rattle.position_third_step1.specs.TwoStep.{vel_two_step_tries, none_two_step_tries}
 
@@ -45,15 +42,14 @@ module _ (start : Start) (target : Target) (k : Constants) (m : Limits) where
   -- the second
   pub all_vel_order : Shaped ((Vel, []) ∷ (Vel, 1 ∷ []) ∷ (Vel, 5 ∷ []) ∷ (Vel, 1 ∷ 5 ∷ []) ∷ [])
       (all_vel_tries start target k m)
-  unfolding all_vel_tries all_vel_slots always held only_if times_acc1_vel times_acc0_vel times_vel
+  unfolding all_vel_tries always held only_if times_acc1_vel times_acc0_vel times_vel
   all_vel_order = ((refl, tt), ((refl, (refl, tt)), ((refl, (refl, tt)), ((refl, (refl, (refl, tt))), tt))))
 
   -- the second and the fourth keep phases 4 to 6 of the try before them
   pub all_vel_reuses : let first = drop 4 (times_acc0_acc1_vel start target k m) in
       let third = drop 4 (times_acc0_vel start target k m (sqrt_of (t_acc1_radicand target k m))) in
       map (λ (x : Try). drop 4 x.t) (all_vel_tries start target k m) ≡ first ∷ first ∷ third ∷ third ∷ []
-  unfolding all_vel_tries all_vel_shared all_vel_slots numbers always held only_if
-      times_acc0_acc1_vel times_acc1_vel times_acc0_vel times_vel
+  unfolding all_vel_tries all_vel_shared numbers always held only_if times_acc0_acc1_vel times_acc1_vel times_acc0_vel times_vel
   all_vel_reuses = refl
 
   -- solution 2, which has h1 / a_max taken off in phase 1, before solution 1, which has it added
@@ -73,8 +69,7 @@ module _ (start : Start) (target : Target) (k : Constants) (m : Limits) where
       ∷ (Acc0, 3 ∷ 4 ∷ 5 ∷ [])
       ∷ [])
       (acc0_two_step_tries start target k m)
-  unfolding acc0_two_step_tries acc0_two_step_slots always held only_if
-      times_acc0_two_step times_acc0_removed_pf times_acc0_removed_a_max times_acc0_to_a_min
+  unfolding acc0_two_step_tries always held only_if times_acc0_two_step times_acc0_removed_pf times_acc0_removed_a_max times_acc0_to_a_min
   acc0_two_step_order = (
     (refl, (refl, (refl, (refl, (refl, (refl, tt)))))),
     (
@@ -86,26 +81,26 @@ module _ (start : Start) (target : Target) (k : Constants) (m : Limits) where
   -- of the two with one shape it is the earlier that goes to a_max first
   pub acc0_two_step_second : map (λ (x : Try). at x.t 0) (take 2 (acc0_two_step_tries start target k m))
       ≡ 0ᶠ ∷ ((-ᶠ start.a0 +ᶠ m.a_max) /ᶠ m.j_max) ∷ []
-  unfolding acc0_two_step_tries acc0_two_step_slots always held only_if times_acc0_two_step times_acc0_removed_pf
+  unfolding acc0_two_step_tries always held only_if times_acc0_two_step times_acc0_removed_pf
   acc0_two_step_second = refl
 
   -- phase 0 takes the acceleration to 0; phase 2 does
   pub vel_two_step_order : Shaped ((Vel, 1 ∷ 2 ∷ 5 ∷ []) ∷ (Vel, 0 ∷ 1 ∷ 5 ∷ []) ∷ [])
       (vel_two_step_tries start target k m)
-  unfolding vel_two_step_tries vel_two_step_slots always held only_if times_vel_phase0 times_vel_phase2
+  unfolding vel_two_step_tries always held only_if times_vel_phase0 times_vel_phase2
   vel_two_step_order = ((refl, (refl, (refl, (refl, tt)))), ((refl, (refl, (refl, (refl, tt)))), tt))
 
   -- two step; single step
   pub none_two_step_order : Shaped ((None, 1 ∷ 3 ∷ 4 ∷ 5 ∷ 6 ∷ []) ∷ (None, 1 ∷ 2 ∷ 3 ∷ 4 ∷ 5 ∷ 6 ∷ []) ∷ [])
       (none_two_step_tries start target k m)
-  unfolding none_two_step_tries none_two_step_slots always held only_if times_none_two_step times_none_single_step
+  unfolding none_two_step_tries always held only_if times_none_two_step times_none_single_step
   none_two_step_order = (
     (refl, (refl, (refl, (refl, (refl, (refl, tt)))))),
     ((refl, (refl, (refl, (refl, (refl, (refl, (refl, tt))))))), tt),
   )
 
   pub acc1_vel_two_step_order : Shaped ((Acc1Vel, 0 ∷ 1 ∷ []) ∷ []) (acc1_vel_two_step_tries start target k m)
-  unfolding acc1_vel_two_step_tries acc1_vel_two_step_slots always held only_if times_acc1_vel_two_step
+  unfolding acc1_vel_two_step_tries always held only_if times_acc1_vel_two_step
   acc1_vel_two_step_order = ((refl, (refl, (refl, tt))), tt)
 
   -- time_all_single_step at constant acceleration: the solution with the root added before the one with it taken off
@@ -132,15 +127,15 @@ module _ (start : Start) (target : Target) (k : Constants) (m : Limits) where
       by false rest kept e = ap (λ (ns : List ReachedLimits). reached ∷ ns) e
 
   none_names : names (none_tries start target k m) ≡ root_names None (none_shared start target k m)
-  unfolding none_tries none_slots
+  unfolding none_tries
   none_names = names_for None _ _ _
 
   acc0_names : names (acc0_tries start target k m) ≡ root_names Acc0 (acc0_shared start target k m)
-  unfolding acc0_tries acc0_slots
+  unfolding acc0_tries
   acc0_names = names_for Acc0 _ _ _
 
   acc1_names : names (acc1_tries start target k m) ≡ root_names Acc1 (acc1_shared start target k m)
-  unfolding acc1_tries acc1_slots
+  unfolding acc1_tries
   acc1_names = names_for Acc1 _ _ _
 
   -- a try for each root that is kept: those of NONE, then of ACC0, then of ACC1

@@ -1,5 +1,5 @@
 -- The slots of a family: which of its tries are made, and their times, in the Rust's order. Definitions only.
-use Rattle.std.specs.Prelude.{ℕ, Bool, true, false, List, [], ◌∷◌, Float, get_or}
+use Rattle.std.specs.Prelude.{◌≡◌, ℕ, ◌<◌, Bool, true, false, List, [], ◌∷◌, Float, get_or, length}
 use Rattle.doubles.specs.Constants.{0ᶠ}
 use Rattle.roots.specs.List.{no_roots}
 use Rattle.candidates.specs.declared.Try.{Try}
@@ -13,6 +13,13 @@ Slot = Bool × List Float
 -- the slot i
 abbrev pub slot_at : List Slot → ℕ → Slot
 slot_at slots i = get_or slots i (false, [])
+
+-- what is said of it is said where there is one: whether it holds a try, and which times
+abbrev pub HoldsAt : List Slot → ℕ → Bool → Type 0
+HoldsAt slots i holds = i < length slots → holds ≡ (slot_at slots i).0
+
+abbrev pub TimesAt : List Slot → ℕ → List Float → Type 0
+TimesAt slots i t = i < length slots → t ≡ (slot_at slots i).1
 
 -- times that are always tried
 unfoldable pub always : List (List Float) → List Slot

@@ -97,13 +97,13 @@ abbrev pub slots_by : (times : Float → List Float) → Shared → List Slot
 slots_by times s = root_slots s.range times (roots_of s.roots)
 
 module _ (start : Start) (target : Target) (k : Constants) (m : Limits) where
-  unfoldable pub none_slots : Shared → List Slot
+  abbrev pub none_slots : Shared → List Slot
   none_slots s = slots_by (none_times start target k m s) s
 
-  unfoldable pub acc0_slots : Shared → List Slot
+  abbrev pub acc0_slots : Shared → List Slot
   acc0_slots s = slots_by (acc0_times start target k m s) s
 
-  unfoldable pub acc1_slots : Shared → List Slot
+  abbrev pub acc1_slots : Shared → List Slot
   acc1_slots s = slots_by (acc1_times start target k m s) s
 
   -- ---- the tries, polynomial by polynomial

@@ -26,7 +26,7 @@ unfoldable pub all_vel_shared : Start → Target → Constants → Limits → Sh
 all_vel_shared start target k m = numbers (t_acc0 start k m) (t_acc1 target k m) 0ᶠ 0ᶠ
 
 -- ACC0_ACC1_VEL, ACC1_VEL, ACC0_VEL, VEL. The second and the fourth keep phases 4 to 6 of the try before them
-unfoldable pub all_vel_slots : Start → Target → Constants → Limits → Shared → List Slot
+abbrev pub all_vel_slots : Start → Target → Constants → Limits → Shared → List Slot
 all_vel_slots start target k m s =
     let first = times_acc0_acc1_vel start target k m in
     let third = times_acc0_vel start target k m s.h1 in

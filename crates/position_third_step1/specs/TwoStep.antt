@@ -24,7 +24,7 @@ use Rattle.position_third_step1.specs.declared.families.Shared.{Shared}
 use Rattle.position_third_step1.specs.TimeAllVel.{t_acc1}
 
 -- ---- ACC1_VEL
-unfoldable pub acc1_vel_two_step_slots : Start → Target → Constants → Limits → List Slot
+abbrev pub acc1_vel_two_step_slots : Start → Target → Constants → Limits → List Slot
 acc1_vel_two_step_slots start target k m = always (times_acc1_vel_two_step start target k m ∷ [])
 
 unfoldable pub acc1_vel_two_step_tries : Start → Target → Constants → Limits → List Try
@@ -40,7 +40,7 @@ times_removed_a_max start target k m =
     let h1 = scaled_root m (sqrt_of (acc0_removed_a_max_radicand start target k m h0)) in
     times_acc0_removed_a_max start target k m h0 h1
 
-unfoldable pub acc0_two_step_slots : Start → Target → Constants → Limits → List Slot
+abbrev pub acc0_two_step_slots : Start → Target → Constants → Limits → List Slot
 acc0_two_step_slots start target k m =
     always
     (times_acc0_two_step start target k m
@@ -59,7 +59,7 @@ time_acc0_two_step c start target k m = tries true c (acc0_two_step_tries start 
 unfoldable pub vel_two_step_shared : Target → Constants → Limits → Shared
 vel_two_step_shared target k m = numbers 0ᶠ (t_acc1 target k m) 0ᶠ 0ᶠ
 
-unfoldable pub vel_two_step_slots : Start → Target → Constants → Limits → Shared → List Slot
+abbrev pub vel_two_step_slots : Start → Target → Constants → Limits → Shared → List Slot
 vel_two_step_slots start target k m s =
     always (times_vel_phase0 start target k m s.h1 ∷ times_vel_phase2 start target k m s.h1 ∷ [])
 
@@ -75,7 +75,7 @@ unfoldable pub none_two_step_shared : Start → Target → Constants → Limits 
 none_two_step_shared start target k m =
     numbers (scaled_root m (sqrt_of (none_two_step_radicand start target k m))) 0ᶠ 0ᶠ 0ᶠ
 
-unfoldable pub none_two_step_slots : Start → Target → Limits → Shared → List Slot
+abbrev pub none_two_step_slots : Start → Target → Limits → Shared → List Slot
 none_two_step_slots start target m s =
     always (times_none_two_step start target m s.h0 ∷ times_none_single_step start target m ∷ [])
 

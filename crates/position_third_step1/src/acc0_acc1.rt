@@ -1,7 +1,7 @@
 // The tries that reach a_max and a_min: solution 2, then solution 1.
 
-ghost use Rattle.std.specs.Prelude.{◌≡◌, ◌<◌, length};
-ghost use Rattle.position_third_step1.specs.Slots.{slot_at};
+ghost use Rattle.std.specs.Prelude.{◌≡◌, length};
+ghost use Rattle.position_third_step1.specs.Slots.{HoldsAt, TimesAt};
 ghost use Rattle.position_third_step1.specs.TimeAcc0Acc1.{acc0_acc1_shared, acc0_acc1_slots};
 
 use crate::families::Shared;
@@ -35,7 +35,7 @@ pub fn acc0_acc1_count(start: Start, target: Target, m: Limits, s: Shared) -> us
 // Where the guard of the solution admits it.
 #[tactic(auto, unfolding(crate::specs::TimeAcc0Acc1::acc0_acc1_slots))]
 pub fn acc0_acc1_holds(start: Start, target: Target, m: Limits, s: Shared, i: usize) -> bool
-    ensures { i < length (acc0_acc1_slots start target m s) → result ≡ (slot_at (acc0_acc1_slots start target m s) i).0 }
+    ensures { HoldsAt (acc0_acc1_slots start target m s) i result }
 {
     match i {
         0 => admits_acc0_acc1_solution_2(m, s.h1, s.h2, s.h3),
@@ -45,7 +45,7 @@ pub fn acc0_acc1_holds(start: Start, target: Target, m: Limits, s: Shared, i: us
 
 #[tactic(auto, unfolding(crate::specs::TimeAcc0Acc1::acc0_acc1_slots))]
 pub fn acc0_acc1_times(start: Start, target: Target, m: Limits, s: Shared, i: usize) -> [f64; 7]
-    ensures { i < length (acc0_acc1_slots start target m s) → result ≡ (slot_at (acc0_acc1_slots start target m s) i).1 }
+    ensures { TimesAt (acc0_acc1_slots start target m s) i result }
 {
     match i {
         0 => times_acc0_acc1_solution_2(start, target, m, s.h1, s.h2, s.h3),

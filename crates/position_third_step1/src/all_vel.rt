@@ -1,7 +1,7 @@
 // The tries that reach v_max: four, and each is always made.
 
-ghost use Rattle.std.specs.Prelude.{◌≡◌, ◌<◌, length};
-ghost use Rattle.position_third_step1.specs.Slots.{slot_at};
+ghost use Rattle.std.specs.Prelude.{◌≡◌};
+ghost use Rattle.position_third_step1.specs.Slots.{TimesAt};
 ghost use Rattle.position_third_step1.specs.TimeAllVel.{t_acc1, all_vel_shared, all_vel_slots};
 
 use crate::families::Shared;
@@ -29,7 +29,7 @@ pub fn all_vel_shared(start: Start, target: Target, k: Constants, m: Limits) -> 
 }
 
 // The second and the fourth keep phases 4 to 6 of the try before them.
-#[tactic(auto, unfolding(crate::specs::TimeAllVel::all_vel_slots, crate::specs::Slots::always))]
+#[tactic(auto, unfolding(crate::specs::Slots::always))]
 pub fn all_vel_times(
     start: Start,
     target: Target,
@@ -38,7 +38,7 @@ pub fn all_vel_times(
     s: Shared,
     i: usize,
 ) -> [f64; 7]
-    ensures { i < length (all_vel_slots start target k m s) → result ≡ (slot_at (all_vel_slots start target k m s) i).1 }
+    ensures { TimesAt (all_vel_slots start target k m s) i result }
 {
     match i {
         0 => times_acc0_acc1_vel(start, target, k, m),

@@ -23,7 +23,8 @@ pub enum Family {
 }
 
 // What the tries of a family share, and is computed once: the roots of its polynomial, the range that they are held to,
-// and numbers, each 0 where the family has none.
+// and numbers, each 0 where the family has none. An enum with a case for each family would be matched again in each
+// function that reads it, with an answer for the cases of other families.
 #[derive(Clone, Copy)]
 pub struct Shared {
     pub roots: Roots,

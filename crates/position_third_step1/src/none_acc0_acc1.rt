@@ -1,9 +1,9 @@
 // The tries that reach no limit, a_max alone or a_min alone: one for each root of a quartic that isn't skipped.
 
-ghost use Rattle.std.specs.Prelude.{◌≡◌, ◌<◌, length};
+ghost use Rattle.std.specs.Prelude.{◌≡◌, ◌<◌, length, true};
 ghost use Rattle.doubles.specs.Operators.{at};
 ghost use Rattle.roots.specs.List.{roots_of};
-ghost use Rattle.position_third_step1.specs.Slots.{slot_at};
+ghost use Rattle.position_third_step1.specs.Slots.{TimesAt};
 ghost use Rattle.position_third_step1.specs.TimeAllNoneAcc0Acc1.{roots_if, none_shared, acc0_shared, acc1_shared};
 ghost use Rattle.position_third_step1.specs.TimeAllNoneAcc0Acc1.{none_slots, acc0_slots, acc1_slots, root_holds};
 
@@ -24,13 +24,21 @@ use phase_times_quartic::time_none::{
 use profile::{Limits, Start, Target};
 use roots::{Roots, solve_quart_monic_coeffs};
 
-// The roots in ascending order, if there is a solution.
+// The roots in ascending order.
+#[tactic(auto, unfolding(crate::specs::TimeAllNoneAcc0Acc1::roots_if))]
+fn ascending_roots(q: Quartic) -> Roots
+    ensures { result ≡ roots_if true q }
+{
+    solve_quart_monic_coeffs(q.c0, q.c1, q.c2, q.c3).ascending()
+}
+
+// Those of a polynomial of which it is asked whether it has a solution.
 #[tactic(auto, unfolding(crate::specs::TimeAllNoneAcc0Acc1::roots_if))]
 fn roots_if(has_solution: bool, q: Quartic) -> Roots
     ensures { result ≡ roots_if has_solution q }
 {
     if has_solution {
-        solve_quart_monic_coeffs(q.c0, q.c1, q.c2, q.c3).ascending()
+        ascending_roots(q)
     } else {
         Roots::new()
     }
@@ -41,7 +49,7 @@ pub fn none_shared(start: Start, target: Target, k: Constants, m: Limits) -> Sha
     ensures { result ≡ none_shared start target k m }
 {
     let h2 = h2_none(start, target, k, m);
-    let roots = roots_if(true, polynom_none(start, target, k, m, h2));
+    let roots = ascending_roots(polynom_none(start, target, k, m, h2));
     let range = range_none(start, target, m);
     Shared {
         roots,
@@ -120,6 +128,7 @@ pub fn root_holds(s: Shared, i: usize) -> bool
     !s.range.skips(root_at(s, i))
 }
 
+#[tactic(auto, using(crate::proofs::SlotLaws::of_slots))]
 pub fn none_times(
     start: Start,
     target: Target,
@@ -128,12 +137,13 @@ pub fn none_times(
     s: Shared,
     i: usize,
 ) -> [f64; 7]
-    ensures { i < length (none_slots start target k m s) → result ≡ (slot_at (none_slots start target k m s) i).1 }
+    ensures { TimesAt (none_slots start target k m s) i result }
 {
     let corrected = corrected_none(start, target, k, m, s.h2, root_at(s, i));
     times_none(start, target, m, s.h2, corrected)
 }
 
+#[tactic(auto, using(crate::proofs::SlotLaws::of_slots))]
 pub fn acc0_times(
     start: Start,
     target: Target,
@@ -142,12 +152,13 @@ pub fn acc0_times(
     s: Shared,
     i: usize,
 ) -> [f64; 7]
-    ensures { i < length (acc0_slots start target k m s) → result ≡ (slot_at (acc0_slots start target k m s) i).1 }
+    ensures { TimesAt (acc0_slots start target k m s) i result }
 {
     let corrected = corrected_acc0(k, m, s.h0, s.h2, root_at(s, i));
     times_acc0(start, target, m, s.h3, corrected)
 }
 
+#[tactic(auto, using(crate::proofs::SlotLaws::of_slots))]
 pub fn acc1_times(
     start: Start,
     target: Target,
@@ -156,7 +167,7 @@ pub fn acc1_times(
     s: Shared,
     i: usize,
 ) -> [f64; 7]
-    ensures { i < length (acc1_slots start target k m s) → result ≡ (slot_at (acc1_slots start target k m s) i).1 }
+    ensures { TimesAt (acc1_slots start target k m s) i result }
 {
     let corrected = corrected_acc1(start, k, m, s.h0, s.h2, root_at(s, i));
     times_acc1(start, target, m, s.h3, corrected)

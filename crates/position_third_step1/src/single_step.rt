@@ -1,7 +1,7 @@
 // The moves without jerk, tried where j_max, a_max or a_min is 0.
 
-ghost use Rattle.std.specs.Prelude.{◌≡◌, ◌<◌, length};
-ghost use Rattle.position_third_step1.specs.Slots.{slot_at};
+ghost use Rattle.std.specs.Prelude.{◌≡◌, length};
+ghost use Rattle.position_third_step1.specs.Slots.{HoldsAt, TimesAt};
 ghost use Rattle.position_third_step1.specs.TimeAllSingleStep.{single_step_shared, single_step_slots};
 
 use crate::families::Shared;
@@ -26,15 +26,16 @@ pub fn single_step_count(start: Start, target: Target, k: Constants, s: Shared) 
     ensures { result ≡ length (single_step_slots start target k s) }
 {
     if changes_acceleration(start, target) {
-        return 0;
+        0
+    } else if starts_accelerated(start) {
+        2
+    } else {
+        1
     }
-    if starts_accelerated(start) {
-        return 2;
-    }
-    1
 }
 
 // At constant acceleration two solutions; at constant velocity; at rest.
+#[tactic(auto, unfolding(crate::specs::TimeAllSingleStep::single_step_slots))]
 pub fn single_step_times(
     start: Start,
     target: Target,
@@ -42,29 +43,30 @@ pub fn single_step_times(
     s: Shared,
     i: usize,
 ) -> [f64; 7]
-    ensures { i < length (single_step_slots start target k s) → result ≡ (slot_at (single_step_slots start target k s) i).1 }
+    ensures { TimesAt (single_step_slots start target k s) i result }
 {
     if starts_accelerated(start) {
-        if i == 0 {
-            return times_single_step_solution_1(start, s.h0);
+        match i {
+            0 => times_single_step_solution_1(start, s.h0),
+            _ => times_single_step_solution_2(start, s.h0),
         }
-        return times_single_step_solution_2(start, s.h0);
+    } else if starts_moving(start) {
+        times_at_constant_speed(start, k)
+    } else {
+        zero_times()
     }
-    if starts_moving(start) {
-        return times_at_constant_speed(start, k);
-    }
-    zero_times()
 }
 
 // A solution at constant acceleration whose phase 3 is negative or a NaN is not put to the check.
+#[tactic(auto, unfolding(crate::specs::TimeAllSingleStep::single_step_slots))]
 pub fn single_step_holds(start: Start, target: Target, k: Constants, s: Shared, i: usize) -> bool
-    ensures { i < length (single_step_slots start target k s) → result ≡ (slot_at (single_step_slots start target k s) i).0 }
+    ensures { HoldsAt (single_step_slots start target k s) i result }
 {
     if starts_accelerated(start) {
-        return has_phase_3(single_step_times(start, target, k, s, i));
+        has_phase_3(single_step_times(start, target, k, s, i))
+    } else if starts_moving(start) {
+        true
+    } else {
+        starts_at_target(k)
     }
-    if starts_moving(start) {
-        return true;
-    }
-    starts_at_target(k)
 }

@@ -1,8 +1,11 @@
-// The slots of any family: how many it has, which hold a try, and the times of one that does. Start, target, constants
-// and limits go in one by one, as the Rust's functions and document 01's contracts name them.
+// The slots of any family: how many it has, which hold a try, and the times of one that does. Start, target and
+// limits are three records, since document 01 has each of them travel as one; the constants that the Rust computes once
+// go beside them (entry 76 of docs/DECISIONS.md).
 
-ghost use Rattle.std.specs.Prelude.{◌≡◌, ◌<◌, length};
-ghost use Rattle.position_third_step1.specs.Slots.{slot_at};
+#![tactic(auto, using(crate::proofs::SlotLaws::of_slots), unfolding(crate::specs::Families::slots_of, crate::specs::Slots::always))]
+
+ghost use Rattle.std.specs.Prelude.{◌≡◌, length};
+ghost use Rattle.position_third_step1.specs.Slots.{HoldsAt, TimesAt};
 ghost use Rattle.position_third_step1.specs.Families.{shared_of, slots_of, reached_by, jerk_by, try_by};
 
 use crate::acc0_acc1::{acc0_acc1_count, acc0_acc1_holds, acc0_acc1_shared, acc0_acc1_times};
@@ -43,7 +46,6 @@ pub fn shared(family: Family, start: Start, target: Target, k: Constants, m: Lim
 }
 
 // How many slots a family has: at most four.
-#[tactic(auto, unfolding(crate::specs::Families::slots_of))]
 pub fn slot_count(
     family: Family,
     start: Start,
@@ -65,7 +67,6 @@ pub fn slot_count(
 }
 
 // Whether the slot i holds a try.
-#[tactic(auto, unfolding(crate::specs::Families::slots_of))]
 pub fn slot_holds(
     family: Family,
     start: Start,
@@ -75,7 +76,7 @@ pub fn slot_holds(
     s: Shared,
     i: usize,
 ) -> bool
-    ensures { i < length (slots_of start target k m family s) → result ≡ (slot_at (slots_of start target k m family s) i).0 }
+    ensures { HoldsAt (slots_of start target k m family s) i result }
 {
     match family {
         Family::None | Family::Acc0 | Family::Acc1 => root_holds(s, i),
@@ -90,7 +91,6 @@ pub fn slot_holds(
 }
 
 // The times in the slot i.
-#[tactic(auto, unfolding(crate::specs::Families::slots_of, crate::specs::TwoStep::acc1_vel_two_step_slots, crate::specs::Slots::always))]
 pub fn slot_times(
     family: Family,
     start: Start,
@@ -100,7 +100,7 @@ pub fn slot_times(
     s: Shared,
     i: usize,
 ) -> [f64; 7]
-    ensures { i < length (slots_of start target k m family s) → result ≡ (slot_at (slots_of start target k m family s) i).1 }
+    ensures { TimesAt (slots_of start target k m family s) i result }
 {
     match family {
         Family::AllVel => all_vel_times(start, target, k, m, s, i),

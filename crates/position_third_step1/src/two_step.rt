@@ -1,7 +1,7 @@
 // The two-step families, which are tried where no other found anything. Each of their tries is always made.
 
-ghost use Rattle.std.specs.Prelude.{◌≡◌, ◌<◌, length};
-ghost use Rattle.position_third_step1.specs.Slots.{slot_at};
+ghost use Rattle.std.specs.Prelude.{◌≡◌};
+ghost use Rattle.position_third_step1.specs.Slots.{TimesAt};
 ghost use Rattle.position_third_step1.specs.TwoStep.{none_two_step_shared, vel_two_step_shared, times_removed_a_max};
 ghost use Rattle.position_third_step1.specs.TwoStep.{none_two_step_slots, acc0_two_step_slots, vel_two_step_slots};
 
@@ -29,9 +29,9 @@ pub fn none_two_step_shared(start: Start, target: Target, k: Constants, m: Limit
 }
 
 // Two step; single step.
-#[tactic(auto, unfolding(crate::specs::TwoStep::none_two_step_slots, crate::specs::Slots::always))]
+#[tactic(auto, unfolding(crate::specs::Slots::always))]
 pub fn none_two_step_times(start: Start, target: Target, m: Limits, s: Shared, i: usize) -> [f64; 7]
-    ensures { i < length (none_two_step_slots start target m s) → result ≡ (slot_at (none_two_step_slots start target m s) i).1 }
+    ensures { TimesAt (none_two_step_slots start target m s) i result }
 {
     match i {
         0 => times_none_two_step(start, target, m, s.h0),
@@ -49,7 +49,7 @@ fn times_removed_a_max(start: Start, target: Target, k: Constants, m: Limits) ->
 }
 
 // Two step; three step, removed pf; three step, removed a_max; three step with t = (a_max - a_min) / j_max.
-#[tactic(auto, unfolding(crate::specs::TwoStep::acc0_two_step_slots, crate::specs::Slots::always))]
+#[tactic(auto, unfolding(crate::specs::Slots::always))]
 pub fn acc0_two_step_times(
     start: Start,
     target: Target,
@@ -57,7 +57,7 @@ pub fn acc0_two_step_times(
     m: Limits,
     i: usize,
 ) -> [f64; 7]
-    ensures { i < length (acc0_two_step_slots start target k m) → result ≡ (slot_at (acc0_two_step_slots start target k m) i).1 }
+    ensures { TimesAt (acc0_two_step_slots start target k m) i result }
 {
     match i {
         0 => times_acc0_two_step(start, target, k, m),
@@ -75,7 +75,7 @@ pub fn vel_two_step_shared(target: Target, k: Constants, m: Limits) -> Shared
 }
 
 // Phase 0 takes the acceleration to 0; phase 2 does.
-#[tactic(auto, unfolding(crate::specs::TwoStep::vel_two_step_slots, crate::specs::Slots::always))]
+#[tactic(auto, unfolding(crate::specs::Slots::always))]
 pub fn vel_two_step_times(
     start: Start,
     target: Target,
@@ -84,7 +84,7 @@ pub fn vel_two_step_times(
     s: Shared,
     i: usize,
 ) -> [f64; 7]
-    ensures { i < length (vel_two_step_slots start target k m s) → result ≡ (slot_at (vel_two_step_slots start target k m s) i).1 }
+    ensures { TimesAt (vel_two_step_slots start target k m s) i result }
 {
     match i {
         0 => times_vel_phase_0(start, target, k, m, s.h1),

@@ -32,7 +32,7 @@ use Rattle.candidates.specs.declared.Candidates.{Candidates}
 use Rattle.position_third_step1.specs.CheckTree.{found, tries, only_if}
 use Rattle.position_third_step1.specs.Slots.{Slot, slot_at, held, numbers}
 use Rattle.position_third_step1.specs.Families.{shared_of, slots_of, try_by, tries_of}
-use Rattle.position_third_step1.specs.TimeAllNoneAcc0Acc1.{none_slots, root_slots}
+use Rattle.position_third_step1.specs.TimeAllNoneAcc0Acc1.{root_slots}
 use Rattle.position_third_step1.specs.declared.families.Family.{Family}
 use Rattle.position_third_step1.specs.declared.families.Family.TheVariants.{None}
 use Rattle.position_third_step1.specs.declared.families.Shared.{Shared}
@@ -143,7 +143,7 @@ module _ (start : Start) (target : Target) (k : Constants) (m : Limits) (kind : 
   -- before the first stage
   pub outset : (n : ℕ) (d : Candidates) → length d.valid_profiles ≡ 6 → (stops : Bool) (w : Limits) {s : Shared}
       → s ≡ numbers 0ᶠ 0ᶠ 0ᶠ 0ᶠ → Place (later start target k m kind to n d) d n None w stops s 0 0
-  unfolding slots_of numbers none_slots root_slots held run in_turn
+  unfolding slots_of numbers root_slots held run in_turn
   outset n d h stops w e = rw e (record { left = refl; counted = refl; four = omega arith; six = h })
 
   module _ {end d : Candidates} {n : ℕ} {f : Family} {w : Limits} {stops : Bool} {s : Shared} {count i : ℕ}
