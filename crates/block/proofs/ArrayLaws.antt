@@ -93,11 +93,11 @@ module _ (l : List Profile) (d : Profile) (size : length l ≡ 4) where
         unfolding removal
         by_fourth h e = rw (← removal_read, ← e0, ← e1, ← ex, ← ey, h1, ← e2, ← e3, ← ez, ← ew, h2, ← ev, h) e
 
-pub four_made : (s : ℕ → Profile) {k : Option ℕ} {index : ℕ} {l : List Profile} {r : Answer} → k ≡ removal s
-    → k ≡ Some index → l ≡ removed index s → r ≡ Ok (of_three (slot l)) → r ≡ of_four s
+pub four_made : (s : ℕ → Profile) {k : Option ℕ} {index : ℕ} {l : List Profile} {r : Block} → k ≡ removal s
+    → k ≡ Some index → l ≡ removed index s → r ≡ of_three (slot l) → Ok r ≡ of_four s
 unfolding of_four
 four_made s {index = index} e n el er =
-    rw (← e, n) (er ∙ ap Ok (rw el (three_same (slot (removed index s)) (without index s) (firsts_same 3 (without index s)))))
+    rw (← e, n) (ap Ok (er ∙ rw el (three_same (slot (removed index s)) (without index s) (firsts_same 3 (without index s)))))
 
 pub four_stay : (s : ℕ → Profile) {k : Option ℕ} → k ≡ removal s → k ≡ None → Err NoRemoval ≡ of_four s
 unfolding of_four
@@ -120,19 +120,19 @@ module _ (l : List Profile) (d : Profile) where
       own : r ≡ of_three (read l d)
       own = unfold of_three in (er ∙ rw (ea, eb, e) refl)
 
-  pub five_made : {t0 t1 t2 t3 t4 : Float} {f g h : Fastest} {r : Answer} → length l ≡ 5
+  pub five_made : {t0 t1 t2 t3 t4 : Float} {f g h : Fastest} {r : Block} → length l ≡ 5
       → t0 ≡ total (read l d 0) → t1 ≡ total (read l d 1) → t2 ≡ total (read l d 2) → t3 ≡ total (read l d 3)
       → t4 ≡ total (read l d 4)
       → f ≡ fastest_of_three t0 t1 t2 → g ≡ or_next f 3 t3 → h ≡ or_next g 4 t4
-      → r ≡ Ok (with_two (read l d h.index) (read l d ((h.index + 1) % 5)) (read l d ((h.index + 2) % 5))
-      (read l d ((h.index + 3) % 5)) (read l d ((h.index + 4) % 5)))
-      → r ≡ Ok (of_five (slot l))
-  five_made {h = h} {r = r} size e0 e1 e2 e3 e4 ef eg eh er = own ∙ ap Ok (five_same (read l d) (slot l) (read_same l d size))
+      → r ≡ with_two (read l d h.index) (read l d ((h.index + 1) % 5)) (read l d ((h.index + 2) % 5))
+      (read l d ((h.index + 3) % 5)) (read l d ((h.index + 4) % 5))
+      → r ≡ of_five (slot l)
+  five_made {h = h} {r = r} size e0 e1 e2 e3 e4 ef eg eh er = own ∙ five_same (read l d) (slot l) (read_same l d size)
     where
       e : h ≡ fastest_to (read l d) 4
       e = fastest_of_five (read l d) e0 e1 e2 ef e3 e4 eg eh
 
-      own : r ≡ Ok (of_five (read l d))
+      own : r ≡ of_five (read l d)
       own = unfold of_five in (er ∙ rw e refl)
 
 -- ---- any count
@@ -142,20 +142,20 @@ module _ (l : List Profile) (d : Profile) (size : length l ≡ 6) where
   unfolding selected
   selected_one ea eb er = ap Ok (er ∙ rw (ea, eb, read_same l d size 0 (omega arith)) refl)
 
-  pub selected_two : {r : Answer} → r ≡ Ok (of_two (read l d 0) (read l d 1)) → r ≡ selected (slot l) 2
+  pub selected_two : {r : Block} → r ≡ of_two (read l d 0) (read l d 1) → Ok r ≡ selected (slot l) 2
   unfolding selected
-  selected_two er = er ∙ rw (read_same l d size 0 (omega arith), read_same l d size 1 (omega arith)) refl
+  selected_two er = ap Ok (er ∙ rw (read_same l d size 0 (omega arith), read_same l d size 1 (omega arith)) refl)
 
-  pub selected_three : {r : Answer} → r ≡ Ok (of_three (slot (firsts 3 (read l d)))) → r ≡ selected (slot l) 3
+  pub selected_three : {r : Block} → r ≡ of_three (slot (firsts 3 (read l d))) → Ok r ≡ selected (slot l) 3
   unfolding selected
   selected_three er =
-      er ∙ ap Ok (three_same (slot (firsts 3 (read l d))) (slot l) (firsts_read l d size 3 (omega arith)))
+      ap Ok (er ∙ three_same (slot (firsts 3 (read l d))) (slot l) (firsts_read l d size 3 (omega arith)))
 
   pub selected_four : {r : Answer} → r ≡ of_four (slot (firsts 4 (read l d))) → r ≡ selected (slot l) 4
   unfolding selected
   selected_four er = er ∙ four_same (slot (firsts 4 (read l d))) (slot l) (firsts_read l d size 4 (omega arith))
 
-  pub selected_five : {r : Answer} → r ≡ Ok (of_five (slot (firsts 5 (read l d)))) → r ≡ selected (slot l) 5
+  pub selected_five : {r : Block} → r ≡ of_five (slot (firsts 5 (read l d))) → Ok r ≡ selected (slot l) 5
   unfolding selected
   selected_five er =
-      er ∙ ap Ok (five_same (slot (firsts 5 (read l d))) (slot l) (firsts_read l d size 5 (omega arith)))
+      ap Ok (er ∙ five_same (slot (firsts 5 (read l d))) (slot l) (firsts_read l d size 5 (omega arith)))

@@ -1,8 +1,6 @@
 -- `block::select::of_three` meets its contract. Assumes nothing.
 use Prim.Native.Nat.{◌<◌}
 use lib.Dec.{lit<}
-use mathlib.Core.Path.{ap}
-use Rattle.std.proofs.Common.{Ok}
 use Rattle.block.proofs.FastestLaws.{three_below}
 use Rattle.block.proofs.ArrayLaws.{size_of_law, three_made}
 use borrow.Author.Rules.{rules}
@@ -27,7 +25,7 @@ overflow_add-right c = let h = (three_below 3 _ _ _ (lit< tt) c.fastest_of_three
 
 pub returns : goal.returns
 returns c =
-    ap Ok (three_made c.args.profiles _ (size_of_law 3 c.args.profiles _ c.well_formed.0)
+    three_made c.args.profiles _ (size_of_law 3 c.args.profiles _ c.well_formed.0)
     c.total.ensures c.total-2.ensures c.total-3.ensures
     c.fastest_of_three-fastest.ensures c.from_profiles.ensures c.none.ensures
-    c.new.ensures)
+    c.new.ensures
