@@ -1,5 +1,5 @@
 -- Arrays of profiles, as the code reads and makes them, and what selection makes of them. Assumes nothing.
-use Prim.Native.Nat.{ℕ, zero, suc, ◌+◌, ◌%◌, ◌≤◌, ◌<◌}
+use Prim.Native.Nat.{ℕ, zero, suc, ◌+◌, ◌-◌, ◌%◌, ◌≤◌, ◌<◌}
 use mathlib.Core.Path.{◌≡◌, refl, sym, ap, ◌∙◌}
 use mathlib.Core.Bool.{Bool, true, false, not, ◌&&◌}
 use mathlib.Core.List.{List, [], ◌∷◌}
@@ -12,21 +12,20 @@ use mir.Val.{Val}
 use lib.ListN.{length, get_or}
 use lib.Seq.{get_or-set_same, set-get_or}
 use lib.Ieee.{Float}
-use Rattle.doubles.specs.Operators.{◌*ᶠ◌}
+use Rattle.doubles.specs.Operators.{◌*ᶠ◌, ◌<ᶠ◌}
 use Rattle.doubles.specs.Constants.{eps}
 use Rattle.profile.specs.Boundary.{empty_profile}
 use Rattle.profile.specs.declared.Profile.{Profile}
 use Rattle.profile.specs.contracts.Profile.{the_row, the_type}
 use Rattle.profile.proofs.Profile.TheLaws.{the_laws, the_copy}
 use Rattle.block.specs.Blocks.{total, no_interval, interval_between, block_of, Answer}
-use Rattle.block.specs.Selection.{32ᶠ, 256ᶠ, slot, same_direction, near, of_two, of_three, with_two, of_five}
+use Rattle.block.specs.Selection.{32ᶠ, 256ᶠ, slot, same_direction, near, fastest, of_two, of_three, with_two, of_five}
 use Rattle.block.specs.Selection.{alike_removal, removal, moved_up, without, of_four, selected}
-use Rattle.block.specs.Steps.{or_next, fastest_of_three, removed}
-use Rattle.block.specs.declared.Fastest.{Fastest}
+use Rattle.block.specs.Steps.{removed}
 use Rattle.block.specs.declared.Interval.{Interval}
 use Rattle.refusals.specs.declared.Refusal.TheVariants.{NoRemoval}
 use Rattle.block.specs.declared.Block.{Block}
-use Rattle.block.proofs.FastestLaws.{fastest_to, fastest_of_three_law, fastest_of_five}
+use Rattle.block.proofs.FastestLaws.{next_faster, next_not_faster}
 use Rattle.block.proofs.SelectionLaws.{Same, three_same, five_same, removal_same, moved_below, four_same}
 
 -- the first n profiles
@@ -93,47 +92,58 @@ module _ (l : List Profile) (d : Profile) (size : length l ≡ 4) where
         unfolding removal
         by_fourth h e = rw (← removal_read, ← e0, ← e1, ← ex, ← ey, h1, ← e2, ← e3, ← ez, ← ew, h2, ← ev, h) e
 
-pub four_made : (s : ℕ → Profile) {k : Option ℕ} {index : ℕ} {l : List Profile} {r : Answer} → k ≡ removal s
-    → k ≡ Some index → l ≡ removed index s → r ≡ Ok (of_three (slot l)) → r ≡ of_four s
+pub four_made : (s : ℕ → Profile) {k : Option ℕ} {index : ℕ} {l : List Profile} {r : Block} → k ≡ removal s
+    → k ≡ Some index → l ≡ removed index s → r ≡ of_three (slot l) → Ok r ≡ of_four s
 unfolding of_four
 four_made s {index = index} e n el er =
-    rw (← e, n) (er ∙ ap Ok (rw el (three_same (slot (removed index s)) (without index s) (firsts_same 3 (without index s)))))
+    rw (← e, n) (ap Ok (er ∙ rw el (three_same (slot (removed index s)) (without index s) (firsts_same 3 (without index s)))))
 
 pub four_stay : (s : ℕ → Profile) {k : Option ℕ} → k ≡ removal s → k ≡ None → Err NoRemoval ≡ of_four s
 unfolding of_four
 four_stay s e n = rw (← e, n) refl
 
--- ---- counts 3 and 5
-module _ (l : List Profile) (d : Profile) where
-  pub three_made : {t0 t1 t2 : Float} {f : Fastest} {a b : Interval} {r : Block} → length l ≡ 3
-      → t0 ≡ total (read l d 0) → t1 ≡ total (read l d 1) → t2 ≡ total (read l d 2)
-      → f ≡ fastest_of_three t0 t1 t2
-      → a ≡ interval_between (read l d ((f.index + 1) % 3)) (read l d ((f.index + 2) % 3))
+-- ---- the search for the fastest: i is the fastest of those before j, and the next ones have the totals t and u
+module _ (l : List Profile) (d : Profile) {n i j : ℕ} (size : length l ≡ n) (first : 1 ≤ j) (below : j < n)
+    (e : i ≡ fastest (slot l) (j - 1)) (seen : i < j) {t u : Float} (et : t ≡ total (read l d j))
+    (eu : u ≡ total (read l d i)) where
+  compared : (total (slot l (suc (j - 1))) <ᶠ total (slot l (fastest (slot l) (j - 1)))) ≡ (t <ᶠ u)
+  compared =
+      let next : suc (j - 1) ≡ j = omega arith in
+      rw (next, ← e, ← read_same l d size j below, ← read_same l d size i (omega arith), ← et, ← eu)
+
+  step : suc (j - 1) ≡ j + 1 - 1
+  step = omega arith
+
+  pub next_found : (t <ᶠ u) ≡ true → j ≡ fastest (slot l) (j + 1 - 1)
+  next_found h =
+      let next : j ≡ suc (j - 1) = omega arith in
+      next ∙ next_faster (slot l) (j - 1) (compared ∙ h) ∙ ap (fastest (slot l)) step
+
+  pub found_stays : (t <ᶠ u) ≡ false → i ≡ fastest (slot l) (j + 1 - 1)
+  found_stays h = e ∙ next_not_faster (slot l) (j - 1) (compared ∙ h) ∙ ap (fastest (slot l)) step
+
+-- ---- counts 3 and 5: i is the index of the fastest
+module _ (l : List Profile) (d : Profile) {i : ℕ} where
+  pub three_made : {a b : Interval} {r : Block} → length l ≡ 3 → i ≡ fastest (slot l) 2 → i < 3
+      → a ≡ interval_between (read l d ((i + 1) % 3)) (read l d ((i + 2) % 3))
       → b ≡ no_interval
-      → r ≡ block_of (read l d f.index) a b
+      → r ≡ block_of (read l d i) a b
       → r ≡ of_three (slot l)
-  three_made {f = f} {r = r} size e0 e1 e2 ef ea eb er = own ∙ three_same (read l d) (slot l) (read_same l d size)
-    where
-      e : f ≡ fastest_to (read l d) 2
-      e = fastest_of_three_law (read l d) e0 e1 e2 ef
+  unfolding of_three
+  three_made size e below ea eb er =
+      let same : (k : ℕ) → k < 3 → read l d k ≡ slot l k = read_same l d size in
+      er ∙ rw (ea, eb, same i below, same ((i + 1) % 3) (omega arith), same ((i + 2) % 3) (omega arith), e) refl
 
-      own : r ≡ of_three (read l d)
-      own = unfold of_three in (er ∙ rw (ea, eb, e) refl)
-
-  pub five_made : {t0 t1 t2 t3 t4 : Float} {f g h : Fastest} {r : Answer} → length l ≡ 5
-      → t0 ≡ total (read l d 0) → t1 ≡ total (read l d 1) → t2 ≡ total (read l d 2) → t3 ≡ total (read l d 3)
-      → t4 ≡ total (read l d 4)
-      → f ≡ fastest_of_three t0 t1 t2 → g ≡ or_next f 3 t3 → h ≡ or_next g 4 t4
-      → r ≡ Ok (with_two (read l d h.index) (read l d ((h.index + 1) % 5)) (read l d ((h.index + 2) % 5))
-      (read l d ((h.index + 3) % 5)) (read l d ((h.index + 4) % 5)))
-      → r ≡ Ok (of_five (slot l))
-  five_made {h = h} {r = r} size e0 e1 e2 e3 e4 ef eg eh er = own ∙ ap Ok (five_same (read l d) (slot l) (read_same l d size))
-    where
-      e : h ≡ fastest_to (read l d) 4
-      e = fastest_of_five (read l d) e0 e1 e2 ef e3 e4 eg eh
-
-      own : r ≡ Ok (of_five (read l d))
-      own = unfold of_five in (er ∙ rw e refl)
+  pub five_made : {r : Block} → length l ≡ 5 → i ≡ fastest (slot l) 4 → i < 5
+      → r ≡ with_two (read l d i) (read l d ((i + 1) % 5)) (read l d ((i + 2) % 5)) (read l d ((i + 3) % 5))
+      (read l d ((i + 4) % 5))
+      → r ≡ of_five (slot l)
+  unfolding of_five
+  five_made size e below er =
+      let same : (k : ℕ) → read l d ((i + k) % 5) ≡ slot l ((i + k) % 5) =
+      λ k. read_same l d size ((i + k) % 5) (omega arith) in
+      let own : read l d i ≡ slot l i = read_same l d size i below in
+      er ∙ rw (own, same 1, same 2, same 3, same 4, e) refl
 
 -- ---- any count
 module _ (l : List Profile) (d : Profile) (size : length l ≡ 6) where
@@ -142,20 +152,20 @@ module _ (l : List Profile) (d : Profile) (size : length l ≡ 6) where
   unfolding selected
   selected_one ea eb er = ap Ok (er ∙ rw (ea, eb, read_same l d size 0 (omega arith)) refl)
 
-  pub selected_two : {r : Answer} → r ≡ Ok (of_two (read l d 0) (read l d 1)) → r ≡ selected (slot l) 2
+  pub selected_two : {r : Block} → r ≡ of_two (read l d 0) (read l d 1) → Ok r ≡ selected (slot l) 2
   unfolding selected
-  selected_two er = er ∙ rw (read_same l d size 0 (omega arith), read_same l d size 1 (omega arith)) refl
+  selected_two er = ap Ok (er ∙ rw (read_same l d size 0 (omega arith), read_same l d size 1 (omega arith)) refl)
 
-  pub selected_three : {r : Answer} → r ≡ Ok (of_three (slot (firsts 3 (read l d)))) → r ≡ selected (slot l) 3
+  pub selected_three : {r : Block} → r ≡ of_three (slot (firsts 3 (read l d))) → Ok r ≡ selected (slot l) 3
   unfolding selected
   selected_three er =
-      er ∙ ap Ok (three_same (slot (firsts 3 (read l d))) (slot l) (firsts_read l d size 3 (omega arith)))
+      ap Ok (er ∙ three_same (slot (firsts 3 (read l d))) (slot l) (firsts_read l d size 3 (omega arith)))
 
   pub selected_four : {r : Answer} → r ≡ of_four (slot (firsts 4 (read l d))) → r ≡ selected (slot l) 4
   unfolding selected
   selected_four er = er ∙ four_same (slot (firsts 4 (read l d))) (slot l) (firsts_read l d size 4 (omega arith))
 
-  pub selected_five : {r : Answer} → r ≡ Ok (of_five (slot (firsts 5 (read l d)))) → r ≡ selected (slot l) 5
+  pub selected_five : {r : Block} → r ≡ of_five (slot (firsts 5 (read l d))) → Ok r ≡ selected (slot l) 5
   unfolding selected
   selected_five er =
-      er ∙ ap Ok (five_same (slot (firsts 5 (read l d))) (slot l) (firsts_read l d size 5 (omega arith)))
+      ap Ok (er ∙ five_same (slot (firsts 5 (read l d))) (slot l) (firsts_read l d size 5 (omega arith)))

@@ -36,13 +36,6 @@ pub struct Block {
     pub b: Interval,
 }
 
-// The index of the least total of those seen from the front, and that total.
-#[derive(Clone, Copy)]
-struct Fastest {
-    index: usize,
-    total: f64,
-}
-
 // The sum of a profile's seven times.
 #[tactic(auto, unfolding(crate::specs::Blocks::total))]
 pub fn total(p: Profile) -> f64

@@ -68,36 +68,32 @@ fn put(out: &mut [f64], at: usize, x: &[f64])
     out[at..at + x.len()].copy_from_slice(x);
 }
 
-fn put_profile(out: &mut [f64], at: usize, q: Profile)
+fn put_profile(out: &mut [f64], at: usize, q: &Profile)
     requires { at + profile_length ≤ length out.old }
-    ensures { out.new ≡ stored out.old at (profile_numbers q) }
+    ensures { out.new ≡ stored out.old at (profile_numbers q.now) }
 {
-    let direction = q.direction;
-    let limits = q.limits;
-    let control_signs = q.control_signs;
     let names = [
-        numeral(direction_number(direction)),
-        numeral(limits_number(limits)),
-        numeral(control_signs_number(control_signs)),
+        numeral(direction_number(q.direction)),
+        numeral(limits_number(q.limits)),
+        numeral(control_signs_number(q.control_signs)),
     ];
     let doubles = q.doubles();
     put(out, at, &names);
     put(out, at + NAMES, &doubles);
 }
 
-fn put_interval(out: &mut [f64], at: usize, i: Interval)
+fn put_interval(out: &mut [f64], at: usize, i: &Interval)
     requires { at + interval_length ≤ length out.old }
-    ensures { out.new ≡ stored out.old at (interval_numbers i) }
+    ensures { out.new ≡ stored out.old at (interval_numbers i.now) }
 {
     let stretch = i.stretch;
-    let profile = i.profile;
     let ends = [
         numeral(kind_number(stretch)),
         stretch.left_end(),
         stretch.right_end(),
     ];
     put(out, at, &ends);
-    put_profile(out, at + ENDS_LENGTH, profile);
+    put_profile(out, at + ENDS_LENGTH, &i.profile);
 }
 
 // The plan's numbers. What lies beyond them stays.
@@ -106,7 +102,7 @@ pub fn write_plan(block: &Block, buffer: &mut [f64])
     ensures { buffer.new ≡ plan_numbers block.now ++ drop plan_length buffer.old }
 {
     put(buffer, DURATION_AT, &[block.t_min]);
-    put_profile(buffer, PROFILE_AT, block.p_min);
-    put_interval(buffer, STRETCH_A_AT, block.a);
-    put_interval(buffer, STRETCH_B_AT, block.b);
+    put_profile(buffer, PROFILE_AT, &block.p_min);
+    put_interval(buffer, STRETCH_A_AT, &block.a);
+    put_interval(buffer, STRETCH_B_AT, &block.b);
 }
