@@ -67,7 +67,7 @@ returns-then-t-eq0 c =
 
 pub rounded_by_digits-requires-2 : goal.rounded_by_digits-requires-2
 rounded_by_digits-requires-2 c =
-    record { valid = (omega arith, omega arith, omega arith, omega arith); in_binade = above_half _ }
+    above_half _
 
 pub overflow_add-result-2 : goal.overflow_add-result-2
 overflow_add-result-2 c =
