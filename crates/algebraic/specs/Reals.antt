@@ -17,5 +17,5 @@ units t = t.high * 2 ^ 64 + t.low
 
 abbrev pub real_of : Algebraic → Real
 real_of (CubeRoot r) = cbrt_real 1 (r.m * 2 ^ (107 + r.o)) 1
-real_of (Cosine r) = third_angle_cosine_real (2 ^ 54) (negative r.s) (units r.t) (2 ^ 128)
-real_of (Sine r) = third_angle_sine_real (2 ^ (54 + r.e)) (negative r.s) (units r.t) (2 ^ 128)
+real_of (Cosine r) = third_angle_cosine_real (2 ^ 54) (negative r.sign.bit) (units r.t) (2 ^ 128)
+real_of (Sine r) = third_angle_sine_real (2 ^ (54 + r.e)) (negative r.sign.bit) (units r.t) (2 ^ 128)

@@ -6,7 +6,7 @@ pub mod digits;
 mod number; // number.rt: the numbers that stand for a real, each in its range
 pub mod order;
 
-pub use number::{Cosine, CubeRoot, Sine, Size};
+pub use number::{Cosine, CubeRoot, Sign, Sine, Size};
 
 // A real number between 2^53 and 2^54.
 #[derive(Clone, Copy)]

@@ -13,7 +13,7 @@ pub fn cosine_pattern(t: Pattern) -> u64
     ensures { (result < 0x7ff0_0000_0000_0000) × (of_bits binary64 result ≡ third_angle_cosine_of (double_of t)) }
 {
     let cosine = Cosine {
-        s: t.sign,
+        sign: t.sign,
         t: t.size(),
     };
     0x3fd0_0000_0000_0000 + algebraic::digits::rounded_by_digits(Algebraic::Cosine(cosine))
