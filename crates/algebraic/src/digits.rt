@@ -2,7 +2,7 @@
 ghost use Rattle.std.specs.Prelude.{◌≡◌, ◌^◌, ◌<◌};
 ghost use Rattle.elementary.specs.Nearest.{floor_from};
 ghost use Rattle.elementary.specs.Binade.{InBinade, RoundsTo};
-ghost use Rattle.algebraic.specs.Reals.{real_of, Valid};
+ghost use Rattle.algebraic.specs.Reals.{real_of};
 
 use crate::Algebraic;
 use crate::order::compared;
@@ -10,7 +10,6 @@ use std::cmp::Ordering;
 
 // The largest whole number that is at most the algebraic number, one binary digit a round.
 fn floor_by_digits(c: Algebraic) -> u64
-    requires { Valid c }
     ensures { (result < 2 ^ 54) × (result ≡ floor_from (real_of c) 53 (2 ^ 53)) }
 {
     let mut n: u64 = 0x20_0000_0000_0000;
@@ -25,8 +24,7 @@ fn floor_by_digits(c: Algebraic) -> u64
 
 // The nearest, by the digits of the floor. A tie goes to the even number.
 pub fn rounded_by_digits(c: Algebraic) -> u64
-    requires valid { Valid c }
-    requires in_binade { InBinade (real_of c) }
+    requires { InBinade (real_of c) }
     ensures { RoundsTo (real_of c) result }
 {
     let q = floor_by_digits(c) >> 1;

@@ -9,7 +9,7 @@ use Rattle.angle.specs.declared.Argument.TheVariants.{Known, Inside}
 
 -- the double by its sign bit and the pattern of its magnitude
 abbrev pub double_of : Pattern → Float
-double_of t = of_bits binary64 (t.sign * 2 ^ 63 + t.m)
+double_of t = of_bits binary64 (t.sign.bit * 2 ^ 63 + t.m)
 
 abbrev pub Taken : Float → Argument → Type 0
 Taken t (Known cos sin) = (cos ≡ third_angle_cosine_of t) × (sin ≡ third_angle_sine_of t)

@@ -9,7 +9,7 @@ pub mod candidate;
 mod pattern; // pattern.rt: the sign and the pattern of a t
 mod third; // third.rt: the two functions of the third, by what they have in common
 
-use algebraic::Size;
+use algebraic::{Sign, Size};
 pub use pattern::Pattern;
 pub use third::{ThirdAngle, nearest, third_angle, third_angle_by_digits};
 
@@ -40,7 +40,8 @@ pub fn classify(t: f64) -> Argument
     if m < 0x3c80_0000_0000_0000 {
         return Argument::Known(0.8660254037844386, 0.5);
     }
-    Argument::Inside(Pattern { sign: b >> 63, m })
+    let sign = Sign { bit: b >> 63 };
+    Argument::Inside(Pattern { sign, m })
 }
 
 impl Pattern {

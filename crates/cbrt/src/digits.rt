@@ -4,7 +4,7 @@ ghost use Rattle.std.specs.Float.{binary64};
 ghost use Rattle.std.specs.Float.Ieee.{of_bits};
 ghost use Rattle.elementary.specs.Functions.{cbrt_of};
 
-use algebraic::Algebraic;
+use algebraic::{Algebraic, CubeRoot};
 
 // The pattern of the cube root of the finite double above 0 whose pattern is b. The root has a third of the
 // exponent, and its significand is the root of the significand with the rest of the exponent.
@@ -14,9 +14,10 @@ pub fn root_pattern(b: u64) -> u64
 {
     let parts = bits::normalized(b);
     let exponent = parts.exponent + 1022;
-    let r = algebraic::digits::rounded_by_digits(Algebraic::CubeRoot(
-        parts.significand,
-        exponent % 3,
-    ));
+    let root = CubeRoot {
+        m: parts.significand,
+        o: exponent % 3,
+    };
+    let r = algebraic::digits::rounded_by_digits(Algebraic::CubeRoot(root));
     ((exponent / 3) << 52) + r
 }

@@ -21,13 +21,13 @@ fn shifted(significand: u64, shift: u64) -> Wide
 // (1 + t) * 2^106, for a t from 2^-54 up to 1 in size.
 fn target(t: Pattern) -> Factor
     requires { 0x3c90_0000_0000_0000 ≤ t.m }
-    ensures { Target t.sign t.m result.wide.high result.wide.low }
+    ensures { Target t.sign.bit t.m result.wide.high result.wide.low }
 {
     let size = shifted(
         (t.m & 0xf_ffff_ffff_ffff) + 0x10_0000_0000_0000,
         (t.m >> 52) - 969,
     );
-    if t.sign == 0 {
+    if t.sign.bit == 0 {
         let plus = Wide {
             high: 0x10_0000_0000_0000 + size.high,
             low: size.low,
@@ -46,7 +46,7 @@ fn target(t: Pattern) -> Factor
 // j²(3 * 2^53 + j) at 2h - 1 and 2h + 1. A no says that c or t is out of this range or (1 + t) * 2^160 not well inside,
 // and costs only time: the caller then finds the digits one by one.
 pub fn is_cosine(t: Pattern, c: u64) -> bool
-    ensures { CosineBy t.sign t.m c result }
+    ensures { CosineBy t.sign.bit t.m c result }
 {
     if t.m < 0x3c90_0000_0000_0000 {
         return false;

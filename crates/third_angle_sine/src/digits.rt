@@ -9,7 +9,7 @@ ghost use Rattle.elementary.specs.Functions.{third_angle_sine_of};
 ghost use Rattle.elementary.specs.Binade.{InBinade};
 
 use algebraic::digits::rounded_by_digits;
-use algebraic::{Algebraic, Size};
+use algebraic::{Algebraic, Sign, Sine, Size};
 use angle::Pattern;
 
 // The e with the sine from 2^-(e + 1) to 2^-e, for a t above 0, of this size.
@@ -19,7 +19,12 @@ fn binade(t: Size) -> u64
     ensures in_binade { InBinade (third_angle_sine_real (2 ^ (54 + result)) false (units t) (2 ^ 128)) }
 {
     for e in 1..27u64 {
-        if algebraic::order::compared(Algebraic::Sine(0, t, e), 0x20_0000_0000_0000).is_ge() {
+        let sine = Sine {
+            sign: Sign { bit: 0 },
+            t,
+            e,
+        };
+        if algebraic::order::compared(Algebraic::Sine(sine), 0x20_0000_0000_0000).is_ge() {
             return e;
         }
     }
@@ -30,10 +35,11 @@ fn binade(t: Size) -> u64
 pub fn sine_pattern(t: Pattern) -> u64
     ensures { (result < 0x7ff0_0000_0000_0000) × (of_bits binary64 result ≡ third_angle_sine_of (double_of t)) }
 {
-    let u = t.size();
-    if t.sign == 0 {
-        let e = binade(u);
-        return ((1021 - e) << 52) + rounded_by_digits(Algebraic::Sine(0, u, e));
+    let sign = t.sign;
+    let t = t.size();
+    if sign.bit == 0 {
+        let e = binade(t);
+        return ((1021 - e) << 52) + rounded_by_digits(Algebraic::Sine(Sine { sign, t, e }));
     }
-    0x3fd0_0000_0000_0000 + rounded_by_digits(Algebraic::Sine(1, u, 0))
+    0x3fd0_0000_0000_0000 + rounded_by_digits(Algebraic::Sine(Sine { sign, t, e: 0 }))
 }

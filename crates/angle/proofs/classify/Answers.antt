@@ -30,9 +30,11 @@ pub returns-then-m-lt4359484439294640128 : goal.returns-then-m-lt435948443929464
 returns-then-m-lt4359484439294640128 c =
     near c.args.t (passes _ c.well_formed.0.1) (rw (and_mask (to_bits binary64 c.args.t) 63) at c.if-m-lt4359484439294640128.true)
 
+pub invariant_of-sign : goal.invariant_of-sign
+invariant_of-sign c = record { is_bit = sign_lt c.args.t (passes _ c.well_formed.0.1) }
+
 pub invariant_of-result : goal.invariant_of-result
 invariant_of-result c = record {
-  sign_bit = sign_lt c.args.t (passes _ c.well_formed.0.1);
   least = c.if-m-lt4359484439294640128.false;
   below = lt_of_le-ne c.if-m-gt4607182418800017408.false c.if-m-eq4607182418800017408.false;
 }

@@ -39,11 +39,14 @@ pub loop-d-init : goal.loop-d-init
 loop-d-init c = (omega arith, refl)
 
 pub overflow_add-t : goal.overflow_add-t
-overflow_add-t c = omega (arith, (bit c.loop-d.d c.loop-d-test.true c.loop-d.auto.d).shifted, (bit c.loop-d.d c.loop-d-test.true c.loop-d.auto.d).twice)
+overflow_add-t c =
+    let b = bit c.loop-d.d c.loop-d-test.true c.loop-d.auto.d in
+    omega (arith, b.shifted, b.twice)
 
 pub compared-requires : goal.compared-requires
 compared-requires c =
-    (c.requires, omega (arith, (bit c.loop-d.d c.loop-d-test.true c.loop-d.auto.d).shifted, (bit c.loop-d.d c.loop-d-test.true c.loop-d.auto.d).twice, pow_pos (c.loop-d.d - 1)))
+    let b = bit c.loop-d.d c.loop-d-test.true c.loop-d.auto.d in
+    omega (arith, b.shifted, b.twice, pow_pos (c.loop-d.d - 1))
 
 pub loop-d-preserved-then-is_ge : goal.loop-d-preserved-then-is_ge
 loop-d-preserved-then-is_ge c =

@@ -10,21 +10,21 @@ use Rattle.algebraic.proofs.digits.rounded_by_digits.Goals as goal
 
 pub returns-in-Less : goal.returns-in-Less
 returns-in-Less c =
-    rounds_by_floor (real_of c.args.c) c.requires.in_binade c.floor_by_digits-q.result
+    rounds_by_floor (real_of c.args.c) c.requires c.floor_by_digits-q.result
     c.floor_by_digits-q.ensures.1 _
     (sym (ap (nearest (c.floor_by_digits-q.result / 2))
     (is_less (real_of c.args.c (2 * (c.floor_by_digits-q.result / 2) + 1)) (sym c.in-Less.is ∙ c.compared.ensures))))
 
 pub returns-in-Equal : goal.returns-in-Equal
 returns-in-Equal c =
-    rounds_by_floor (real_of c.args.c) c.requires.in_binade c.floor_by_digits-q.result
+    rounds_by_floor (real_of c.args.c) c.requires c.floor_by_digits-q.result
     c.floor_by_digits-q.ensures.1 _
     (sym (ap (nearest (c.floor_by_digits-q.result / 2))
     (is_equal (real_of c.args.c (2 * (c.floor_by_digits-q.result / 2) + 1)) (sym c.in-Equal.is ∙ c.compared.ensures))))
 
 pub returns-in-Greater : goal.returns-in-Greater
 returns-in-Greater c =
-    rounds_by_floor (real_of c.args.c) c.requires.in_binade c.floor_by_digits-q.result
+    rounds_by_floor (real_of c.args.c) c.requires c.floor_by_digits-q.result
     c.floor_by_digits-q.ensures.1 _
     (add-one (c.floor_by_digits-q.result / 2)
     ∙ sym (ap (nearest (c.floor_by_digits-q.result / 2))

@@ -16,12 +16,8 @@ shifted k h = omega arith
 pub rounded_by_digits-r-requires : goal.rounded_by_digits-r-requires
 rounded_by_digits-r-requires c =
     let n = c.normalized-parts.ensures in
-    record {
-      valid = omega arith;
-      in_binade =
-          in_binade c.normalized-parts.result.significand ((c.normalized-parts.result.exponent + 1022) % 3)
-          n.normal n.fits (omega arith);
-    }
+    in_binade c.normalized-parts.result.significand ((c.normalized-parts.result.exponent + 1022) % 3)
+    n.normal n.fits (omega arith)
 
 pub overflow_add-result : goal.overflow_add-result
 overflow_add-result c =

@@ -34,7 +34,7 @@ one_plus (suc sign) t e f p q = omega arith
 
 pub returns : goal.returns
 returns c =
-    let sign = c.args.t.sign in
+    let sign = c.args.t.sign.bit in
     let h = c.args.c - 0x3fe0_0000_0000_0000 in
     record {
       yes =
@@ -42,9 +42,9 @@ returns c =
           ap (of_bits binary64)
           (let z : c.args.c
           ≡ 0x3fd0_0000_0000_0000 + (2 ^ 52 + (c.args.c - 0x3fe0_0000_0000_0000)) = omega arith in z)
-          ∙ rounded_pattern sign c.args.t.m c.args.t.sign_bit c.args.t.below c.args.t.least
+          ∙ rounded_pattern sign c.args.t.m c.args.t.sign.is_bit c.args.t.below c.args.t.least
           (2 ^ 52 + h)
-          (certified sign c.args.t.m c.args.t.sign_bit c.args.t.below _ h c.if-t-lt4363988038922010624.false
+          (certified sign c.args.t.m c.args.t.sign.is_bit c.args.t.below _ h c.if-t-lt4363988038922010624.false
           (omega arith) (omega arith)
           c.target.ensures.value (c.between.ensures.yes e));
       sure = λ t l g e o w. c.between.ensures.sure

@@ -42,6 +42,6 @@ pub returns : goal.returns
 returns c =
     subst (λ (x : ℕ). Target x c.args.t.m (0xf_ffff_ffff_ffff - c.shifted-size.result.high)
     (0x40_0000_0000_0000 - c.shifted-size.result.low))
-    (let z : 1 ≡ c.args.t.sign = omega (arith, c.if-t-eq0.false, c.args.t.sign_bit) in z)
+    (let z : 1 ≡ c.args.t.sign.bit = omega (arith, c.if-t-eq0.false, c.args.t.sign.is_bit) in z)
     (minus c.args.t.m c.shifted-size.result.high c.shifted-size.result.low
     c.shifted-size.ensures)

@@ -15,12 +15,8 @@ rounds sign m u r e h = subst (λ (x : ℕ). RoundsTo (scaled sign x) r) e h
 
 pub rounded_by_digits-requires : goal.rounded_by_digits-requires
 rounded_by_digits-requires c =
-    record {
-      valid = c.args.t.sign_bit;
-      in_binade = in_binade c.args.t.sign _
-          (subst (λ (u : ℕ). u < 2 ^ 128) (sym c.size.ensures)
-          (size_lt c.args.t.m c.args.t.least c.args.t.below));
-    }
+    in_binade c.args.t.sign.bit _
+    (subst (λ (u : ℕ). u < 2 ^ 128) (sym c.size.ensures) (size_lt c.args.t.m c.args.t.least c.args.t.below))
 
 pub overflow_add-result : goal.overflow_add-result
 overflow_add-result c = omega (arith, rounds_fits _ _ (rounds _ _ _ _ c.size.ensures c.rounded_by_digits.ensures))
@@ -28,6 +24,6 @@ overflow_add-result c = omega (arith, rounds_fits _ _ (rounds _ _ _ _ c.size.ens
 pub returns : goal.returns
 returns c = (
   omega (arith, rounds_fits _ _ (rounds _ _ _ _ c.size.ensures c.rounded_by_digits.ensures)),
-  rounded_pattern c.args.t.sign c.args.t.m c.args.t.sign_bit c.args.t.below
+  rounded_pattern c.args.t.sign.bit c.args.t.m c.args.t.sign.is_bit c.args.t.below
       c.args.t.least c.rounded_by_digits.result (rounds _ _ _ _ c.size.ensures c.rounded_by_digits.ensures),
 )

@@ -17,9 +17,6 @@ found u e s l = record { monotone = monotone 0 u e; start = s; end = l }
 pub loop-e-init : goal.loop-e-init
 loop-e-init c = (omega arith, below_half (units c.args.t) c.requires.0)
 
-pub compared-requires : goal.compared-requires
-compared-requires c = ((omega arith, omega arith, omega arith, omega arith), omega arith)
-
 pub returns-then-is_ge-clause-in_binade : goal.returns-then-is_ge-clause-in_binade
 returns-then-is_ge-clause-in_binade c =
     found (units c.args.t) c.loop-e.e

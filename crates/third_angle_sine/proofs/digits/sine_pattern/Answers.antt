@@ -3,7 +3,7 @@ use mathlib.Core.Path.{◌≡◌, sym, subst}
 use Prim.Native.Nat.{ℕ, ◌+◌, ◌-◌, ◌*◌, ◌^◌, ◌%◌, ◌≤◌, ◌<◌}
 use native.Mathlib.Omega.{arith}
 use lib.Ieee.{binary64, of_bits}
-use Rattle.elementary.specs.Binade.{RoundsTo}
+use Rattle.elementary.specs.Binade.{InBinade, RoundsTo}
 use Rattle.elementary.specs.Functions.{third_angle_sine_of}
 use Rattle.elementary.proofs.Binade.{rounds_fits}
 use Rattle.angle.specs.Arguments.{size_of}
@@ -32,56 +32,51 @@ module _ (sign m e v r : ℕ) (bit : sign < 2) (least : 0x3c80_0000_0000_0000 �
       × (of_bits binary64 (x + r) ≡ third_angle_sine_of (of_bits binary64 (sign * 2 ^ 63 + m))))
       (let z : (1021 - e) * 2 ^ 52 ≡ (1021 - e) * 2 ^ 52 % 2 ^ 64 = omega arith in z) result
 
-is_zero : (s r u e : ℕ) → s ≡ 0 → RoundsTo (scaled 0 u e) r → RoundsTo (scaled s u e) r
-is_zero s r u e z h = subst (λ (x : ℕ). RoundsTo (scaled x u e) r) (sym z) h
+-- the binade, by the sign bit
+is_zero : (s u e : ℕ) → s ≡ 0 → InBinade (scaled 0 u e) → InBinade (scaled s u e)
+is_zero s u e z h = subst (λ (x : ℕ). InBinade (scaled x u e)) (sym z) h
 
-is_one : (s r u e : ℕ) → s < 2 → (s ≡ 0 → ⊥) → RoundsTo (scaled 1 u e) r → RoundsTo (scaled s u e) r
-is_one s r u e l n h = subst (λ (x : ℕ). RoundsTo (scaled x u e) r) (let z : 1 ≡ s = omega arith in z) h
+is_one : (s u : ℕ) → s < 2 → (s ≡ 0 → ⊥) → InBinade (scaled s u 0)
+is_one s u l n = subst (λ (x : ℕ). InBinade (scaled x u 0)) (let z : 1 ≡ s = omega arith in z) (above_half u)
 
 pub binade-e-requires : goal.binade-e-requires
 binade-e-requires c = (
-  subst (λ (u : ℕ). 0 < u) (sym c.size-u.ensures)
+  subst (λ (u : ℕ). 0 < u) (sym c.size-t.ensures)
       (size_pos c.args.t.m c.args.t.least c.args.t.below),
-  subst (λ (u : ℕ). u ≤ 2 ^ 128 - 2 ^ 75) (sym c.size-u.ensures)
+  subst (λ (u : ℕ). u ≤ 2 ^ 128 - 2 ^ 75) (sym c.size-t.ensures)
       (size_most c.args.t.m c.args.t.least c.args.t.below),
 )
+
+pub rounded_by_digits-requires : goal.rounded_by_digits-requires
+rounded_by_digits-requires c = is_zero c.args.t.sign.bit _ c.binade-e.result c.if-sign-eq0.true c.binade-e.ensures.in_binade
 
 pub overflow_add-result : goal.overflow_add-result
 overflow_add-result c =
     omega (
       arith,
-      (shifted c.args.t.sign c.args.t.m c.binade-e.result _ c.rounded_by_digits.result
-          c.args.t.sign_bit c.args.t.least c.args.t.below c.binade-e.ensures.bound.1
-          c.size-u.ensures
-          (is_zero c.args.t.sign c.rounded_by_digits.result _ c.binade-e.result
-          c.if-t-eq0.true c.rounded_by_digits.ensures)).0,
+      (shifted c.args.t.sign.bit c.args.t.m c.binade-e.result _ c.rounded_by_digits.result
+          c.args.t.sign.is_bit c.args.t.least c.args.t.below c.binade-e.ensures.bound.1
+          c.size-t.ensures c.rounded_by_digits.ensures).0,
     )
 
-pub returns-then-t-eq0 : goal.returns-then-t-eq0
-returns-then-t-eq0 c =
-    shifted c.args.t.sign c.args.t.m c.binade-e.result _ c.rounded_by_digits.result
-    c.args.t.sign_bit c.args.t.least c.args.t.below c.binade-e.ensures.bound.1
-    c.size-u.ensures
-    (is_zero c.args.t.sign c.rounded_by_digits.result _ c.binade-e.result
-    c.if-t-eq0.true c.rounded_by_digits.ensures)
+pub returns-then-sign-eq0 : goal.returns-then-sign-eq0
+returns-then-sign-eq0 c =
+    shifted c.args.t.sign.bit c.args.t.m c.binade-e.result _ c.rounded_by_digits.result
+    c.args.t.sign.is_bit c.args.t.least c.args.t.below c.binade-e.ensures.bound.1
+    c.size-t.ensures c.rounded_by_digits.ensures
 
 pub rounded_by_digits-requires-2 : goal.rounded_by_digits-requires-2
-rounded_by_digits-requires-2 c =
-    record { valid = (omega arith, omega arith, omega arith, omega arith); in_binade = above_half _ }
+rounded_by_digits-requires-2 c = is_one c.args.t.sign.bit _ c.args.t.sign.is_bit c.if-sign-eq0.false
 
 pub overflow_add-result-2 : goal.overflow_add-result-2
 overflow_add-result-2 c =
     omega (
       arith,
-      (result c.args.t.sign c.args.t.m 0 _ c.rounded_by_digits-2.result c.args.t.sign_bit
-          c.args.t.least c.args.t.below (omega arith) c.size-u.ensures
-          (is_one c.args.t.sign c.rounded_by_digits-2.result _ 0 c.args.t.sign_bit c.if-t-eq0.false
-          c.rounded_by_digits-2.ensures)).0,
+      (result c.args.t.sign.bit c.args.t.m 0 _ c.rounded_by_digits-2.result c.args.t.sign.is_bit
+          c.args.t.least c.args.t.below (omega arith) c.size-t.ensures c.rounded_by_digits-2.ensures).0,
     )
 
 pub returns : goal.returns
 returns c =
-    result c.args.t.sign c.args.t.m 0 _ c.rounded_by_digits-2.result c.args.t.sign_bit
-    c.args.t.least c.args.t.below (omega arith) c.size-u.ensures
-    (is_one c.args.t.sign c.rounded_by_digits-2.result _ 0 c.args.t.sign_bit c.if-t-eq0.false
-    c.rounded_by_digits-2.ensures)
+    result c.args.t.sign.bit c.args.t.m 0 _ c.rounded_by_digits-2.result c.args.t.sign.is_bit
+    c.args.t.least c.args.t.below (omega arith) c.size-t.ensures c.rounded_by_digits-2.ensures
