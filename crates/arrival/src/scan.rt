@@ -51,7 +51,7 @@ impl<'a> Axes<'a> {
         if ends.len() != ENDS_LENGTH * count {
             return Err(Refusal::WrongAxes);
         }
-        // with `any` over the range the check doesn't show `well_formed`
+        // by index: with `any` over the range, or `zip` of the chunks, the check doesn't show `well_formed`
         for i in 0..count {
             if axis_at(durations, ends, i).is_wrong() {
                 return Err(Refusal::WrongAxes);
