@@ -33,7 +33,8 @@ pub fn read_array<R: Read, const N: usize>(reader: &mut R) -> Option<[u8; N]>
     Some(array)
 }
 
-// The next `count` bytes, or nothing where the input ends before or they are more than `MOST`.
+// The next `count` bytes, or nothing where the input ends before or they are more than `MOST`. The record says how many;
+// what is read has its own length.
 pub fn read_bytes<R: Read, const MOST: usize>(
     reader: &mut R,
     count: usize,
@@ -51,7 +52,8 @@ pub fn read_bytes<R: Read, const MOST: usize>(
 }
 
 // Answers the records of the input in their order, up to its end or to a line that can't be written. The range only
-// shows that the loop ends: no input has as many.
+// shows that the loop ends: no input has as many. A `while let` would need a measure, and input may have no end; the
+// kit's `rt.forever()` needs a handle `Wait`, and no function of the project takes one.
 pub fn answer_records<A: Answers<MOST>, R: Input + Print, const MOST: usize>(rt: &R)
     requires { MOST < 2 ^ 32 }
 {

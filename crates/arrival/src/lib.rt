@@ -17,7 +17,7 @@ pub use answer::Arrival;
 
 // `durations` has the shortest duration of each axis, `ends` four numbers for each: left and right of each stretch. A
 // missing stretch is 0 and 0, one from a time on ends at infinity. Refused where the slices aren't those of 1 to 8
-// plans, and where no finite time is free for all.
+// plans, and where no finite time is free for all. Two lent slices, as document 01 says.
 pub fn arrival(durations: &[f64], ends: &[f64]) -> Result<Arrival, Refusal>
     ensures { IsArrival durations.now ends.now result }
 {

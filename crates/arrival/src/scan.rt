@@ -9,22 +9,22 @@ use crate::axis::{AXES_MOST, Axis, ENDS_LENGTH, Stretch};
 use refusals::Refusal;
 
 // Beside the method `axis`, because `new` reads the axes before they are known to be an `Axes`.
-#[tactic(auto, unfolding(crate::specs::Axes::axis_of))]
 fn axis_at(durations: &[f64], ends: &[f64], i: usize) -> Axis
     requires i_in_bounds { i < length durations.now }
     requires ends_len { length ends.now ≡ ends_length * length durations.now }
     ensures { result ≡ axis_of durations.now ends.now i }
 {
-    let at = ENDS_LENGTH * i;
+    let (stretches, _) = ends.as_chunks::<ENDS_LENGTH>();
+    let [a_left, a_right, b_left, b_right] = stretches[i];
     Axis {
         duration: durations[i],
         a: Stretch {
-            left: ends[at],
-            right: ends[at + 1],
+            left: a_left,
+            right: a_right,
         },
         b: Stretch {
-            left: ends[at + 2],
-            right: ends[at + 3],
+            left: b_left,
+            right: b_right,
         },
     }
 }
@@ -51,6 +51,7 @@ impl<'a> Axes<'a> {
         if ends.len() != ENDS_LENGTH * count {
             return Err(Refusal::WrongAxes);
         }
+        // by index: with `any` over the range, or `zip` of the chunks, the check doesn't show `well_formed`
         for i in 0..count {
             if axis_at(durations, ends, i).is_wrong() {
                 return Err(Refusal::WrongAxes);
@@ -103,6 +104,7 @@ impl<'a> Axes<'a> {
             (NoneHas self.now.durations.now self.now.ends.now time (length self.now.durations.now))
             (λ i. Lowest self.now.durations.now self.now.ends.now time i) }
     {
+        // with `find` over the range the check doesn't show `returns`
         for i in 0..self.durations.len() {
             if self.axis(i).has(time) {
                 return Some(i);

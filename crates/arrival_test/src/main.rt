@@ -38,6 +38,7 @@ struct Given {
     ends: ArrayVec<u8, END_BYTES>,
 }
 
+// As many doubles as there are bytes for: `doubles_at` reads a number that is known.
 #[tactic(auto, unfolding(encoding::specs::Encoding::doubles_at))]
 fn doubles_of<const N: usize>(bytes: &[u8]) -> ArrayVec<f64, N>
     requires { length bytes.now ≤ 8 * N }

@@ -18,7 +18,8 @@ pub struct Try {
     pub limits: Limits,
 }
 
-// Six profiles, of which the first `current_index` count. The one after them is where the next try is made.
+// Six profiles, of which the first `current_index` count. The one after them is where the next try is made. An array and
+// a count, as document 01 says, and no ArrayVec: its definitions tell what lies in all six, also behind those that count.
 #[derive(Clone, Copy)]
 pub struct Candidates {
     pub valid_profiles: [Profile; 6],
@@ -42,7 +43,7 @@ pub fn passes(x: Try) -> bool
     )
 }
 
-// The profile that the check makes of a try, with these durations.
+// The profile that the check makes of a try, with these durations. No `From`, since the durations are no part of a try.
 #[tactic(auto, unfolding(crate::specs::Try::profile_of, profile::specs::Boundary::with_boundary))]
 pub fn profile_of(brake: f64, accel: f64, x: Try) -> Profile
     ensures { result ≡ profile_of brake accel x }

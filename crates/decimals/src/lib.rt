@@ -17,6 +17,7 @@ pub fn put_decimal<const N: usize>(line: &mut ArrayVec<u8, N>, n: u64)
     requires { array_vec_len line.old + decimal_width ≤ N }
     ensures { Appends line.old line.new (decimal n) decimal_width }
 {
+    // the library's: it fills a buffer from the front and says how many
     let mut digits = [0u8; DECIMAL_WIDTH];
     let count = io::decimal(n, &mut digits);
     put(line, &digits[..count]);

@@ -6,7 +6,7 @@ ghost use Rattle.encoding.specs.Encoding.{double_at, doubles_at, hex_digit, hex_
 
 use std::num::f64_from_bits_with_nan;
 
-// The double of the eight bytes from `at` on.
+// The double of the eight bytes from `at` on: std reads one from an array of eight, and none from a place.
 pub fn double_at(b: &[u8], at: usize) -> f64
     requires { at + 8 ≤ length b.now }
     ensures { result ≡ double_at b.now at }

@@ -1,7 +1,6 @@
 // A plan into a lent slice.
 
 ghost use Rattle.std.specs.Prelude.{◌≡◌, ◌+◌, ◌≤◌, ◌++◌, length, drop};
-ghost use Rattle.profile.specs.Names.{direction_number, limits_number, control_signs_number};
 ghost use Rattle.block.specs.Blocks.{kind_number};
 ghost use Rattle.plan_buffer.specs.Layout.{numeral, profile_length, interval_length, plan_length, profile_numbers};
 ghost use Rattle.plan_buffer.specs.Layout.{interval_numbers, plan_numbers};
@@ -9,40 +8,7 @@ ghost use Rattle.plan_buffer.specs.Steps.{stored};
 
 use crate::layout::{DURATION_AT, ENDS_LENGTH, PROFILE_AT, STRETCH_A_AT, STRETCH_B_AT};
 use block::{Block, Interval, Stretch};
-use profile::{ControlSigns, Direction, NAMES, Profile, ReachedLimits};
-
-fn direction_number(direction: Direction) -> u32
-    ensures { result ≡ direction_number direction }
-{
-    match direction {
-        Direction::UP => 0,
-        Direction::DOWN => 1,
-    }
-}
-
-fn limits_number(limits: ReachedLimits) -> u32
-    ensures { result ≡ limits_number limits }
-{
-    match limits {
-        ReachedLimits::Acc0Acc1Vel => 0,
-        ReachedLimits::Vel => 1,
-        ReachedLimits::Acc0 => 2,
-        ReachedLimits::Acc1 => 3,
-        ReachedLimits::Acc0Acc1 => 4,
-        ReachedLimits::Acc0Vel => 5,
-        ReachedLimits::Acc1Vel => 6,
-        ReachedLimits::None => 7,
-    }
-}
-
-fn control_signs_number(control_signs: ControlSigns) -> u32
-    ensures { result ≡ control_signs_number control_signs }
-{
-    match control_signs {
-        ControlSigns::UDDU => 0,
-        ControlSigns::UDUD => 1,
-    }
-}
+use profile::{NAMES, Profile};
 
 fn kind_number(stretch: Stretch) -> u32
     ensures { result ≡ kind_number stretch }
@@ -73,9 +39,9 @@ fn put_profile(out: &mut [f64], at: usize, q: &Profile)
     ensures { out.new ≡ stored out.old at (profile_numbers q.now) }
 {
     let names = [
-        numeral(direction_number(q.direction)),
-        numeral(limits_number(q.limits)),
-        numeral(control_signs_number(q.control_signs)),
+        numeral(u32::from(q.direction)),
+        numeral(u32::from(q.limits)),
+        numeral(u32::from(q.control_signs)),
     ];
     let doubles = q.doubles();
     put(out, at, &names);

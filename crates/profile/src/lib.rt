@@ -13,6 +13,7 @@ mod lent; // lent.rt: the two functions that change a lent profile
 
 pub use layout::{DOUBLES, NAMES};
 
+// The names that the Rust's profile.rs declares. They are closed lists: the definitions name every case.
 #[derive(Clone, Copy, PartialEq, Eq)]
 pub enum ReachedLimits {
     Acc0Acc1Vel,
@@ -108,6 +109,7 @@ impl Profile {
 // The constants of the code are those of the definitions.
 pub fn constants()
     ensures eps { (Profile.V_EPS ≡ v_eps) × (Profile.A_EPS ≡ a_eps) × (Profile.J_EPS ≡ j_eps) }
-    ensures precision { (Profile.P_PRECISION ≡ p_precision) × (Profile.V_PRECISION ≡ v_precision) × (Profile.A_PRECISION ≡ a_precision) }
+    ensures precision { (Profile.P_PRECISION ≡ p_precision) × (Profile.V_PRECISION ≡ v_precision)
+        × (Profile.A_PRECISION ≡ a_precision) }
     ensures longest { Profile.T_MAX ≡ t_max }
 {}

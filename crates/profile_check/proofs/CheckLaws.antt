@@ -1,7 +1,7 @@
 -- What the conditions of a check say makes its answer. Assumes nothing.
 use mathlib.Core.Path.{◌≡◌, refl, ◌∙◌}
 use mathlib.Core.Bool.{Bool, true, false, ◌&&◌}
-use mathlib.Core.List.{List, [], ◌∷◌}
+use mathlib.Core.List.{List}
 use lib.Ieee.{Float}
 use Rattle.profile.specs.Tolerances.{t_max}
 use Rattle.profile.specs.Limits.{bounds_of}
@@ -10,7 +10,6 @@ use Rattle.profile_check.specs.Check.{times_pass, phases_pass, sum_passes, zeros
 use Rattle.profile.specs.declared.Start.{Start}
 use Rattle.profile.specs.declared.Target.{Target}
 use Rattle.profile.specs.declared.Limits.{Limits}
-use Rattle.profile_rows.specs.declared.Row.{Row}
 use Rattle.profile_rows.specs.declared.Rows.{Rows}
 use Rattle.profile.specs.declared.Bounds.{Bounds}
 use Rattle.profile.specs.declared.ReachedLimits.{ReachedLimits}
@@ -26,15 +25,6 @@ turned false true true = refl
 turned false true false = refl
 turned false false true = refl
 turned false false false = refl
-
--- the rows, column by column
-abbrev pub columns : (r0 r1 r2 r3 r4 r5 r6 r7 : Row) → Rows
-columns r0 r1 r2 r3 r4 r5 r6 r7 =
-    record {
-      a = r0.a ∷ r1.a ∷ r2.a ∷ r3.a ∷ r4.a ∷ r5.a ∷ r6.a ∷ r7.a ∷ [];
-      v = r0.v ∷ r1.v ∷ r2.v ∷ r3.v ∷ r4.v ∷ r5.v ∷ r6.v ∷ r7.v ∷ [];
-      p = r0.p ∷ r1.p ∷ r2.p ∷ r3.p ∷ r4.p ∷ r5.p ∷ r6.p ∷ r7.p ∷ [];
-    }
 
 -- x1, x2 and x3 are the tests of the times, x those of the rows
 module _ (start : Start) (target : Target) (t : List Float) (signs : ControlSigns) (reached : ReachedLimits) (set-limits : Bool) (jf : Float) (m : Limits)

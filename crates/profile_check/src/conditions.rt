@@ -1,13 +1,11 @@
 // The conditions of the check. Every comparison stands with the Rust's sides: with a NaN it is false.
 
-ghost use Rattle.std.specs.Prelude.{◌≡◌, ◌&&◌};
-ghost use Rattle.doubles.specs.Operators.{◌-ᶠ◌, ◌<ᶠ◌, at};
-ghost use Rattle.doubles.specs.Functions.{absᶠ};
-ghost use Rattle.profile.specs.Tolerances.{p_precision, v_precision, a_precision};
-ghost use Rattle.profile_check.specs.Check.{times_pass, phases_pass, sum_passes, zero_passes, a_within, v_within};
+ghost use Rattle.std.specs.Prelude.{◌≡◌};
+ghost use Rattle.profile_check.specs.Check.{times_pass, phases_pass, sum_passes, zero_passes, zeros_pass, end_passes};
+ghost use Rattle.profile_check.specs.Check.{a_within, v_within, rows_pass};
 
 use profile::{Bounds, Profile, ReachedLimits, Target};
-use profile_rows::{Row, sums_of};
+use profile_rows::{Rows, sums_of};
 
 #[tactic(auto, unfolding(crate::specs::Check::times_pass))]
 pub fn times_pass(t: [f64; 7]) -> bool
@@ -53,45 +51,26 @@ fn zero_passes(a: f64, a_next: f64, v: f64, j: f64, b: Bounds) -> bool
     true
 }
 
-// The same in phases 2 to 6, from row 2 to row 7.
-pub fn zeros_pass(
-    r2: Row,
-    r3: Row,
-    r4: Row,
-    r5: Row,
-    r6: Row,
-    r7: Row,
-    j: [f64; 7],
-    b: Bounds,
-) -> bool
-    ensures { result ≡ (zero_passes r2.a r3.a r2.v (at j 2) b
-        && zero_passes r3.a r4.a r3.v (at j 3) b
-        && zero_passes r4.a r5.a r4.v (at j 4) b
-        && zero_passes r5.a r6.a r5.v (at j 5) b
-        && zero_passes r6.a r7.a r6.v (at j 6) b) }
+// The same in phases 2 to 6.
+#[tactic(auto, unfolding(crate::specs::Check::zeros_pass))]
+pub fn zeros_pass(r: &Rows, j: [f64; 7], b: Bounds) -> bool
+    ensures { result ≡ zeros_pass r.now j b }
 {
-    if !zero_passes(r2.a, r3.a, r2.v, j[2], b) {
-        return false;
-    }
-    if !zero_passes(r3.a, r4.a, r3.v, j[3], b) {
-        return false;
-    }
-    if !zero_passes(r4.a, r5.a, r4.v, j[4], b) {
-        return false;
-    }
-    if !zero_passes(r5.a, r6.a, r5.v, j[5], b) {
-        return false;
-    }
-    zero_passes(r6.a, r7.a, r6.v, j[6], b)
+    zero_passes(r.a[2], r.a[3], r.v[2], j[2], b)
+        && zero_passes(r.a[3], r.a[4], r.v[3], j[3], b)
+        && zero_passes(r.a[4], r.a[5], r.v[4], j[4], b)
+        && zero_passes(r.a[5], r.a[6], r.v[5], j[5], b)
+        && zero_passes(r.a[6], r.a[7], r.v[6], j[6], b)
 }
 
 // The last row is at the target.
-pub fn end_passes(r: Row, target: Target) -> bool
-    ensures { result ≡ ((absᶠ (r.p -ᶠ target.pf) <ᶠ p_precision) && (absᶠ (r.v -ᶠ target.vf) <ᶠ v_precision) && (absᶠ (r.a -ᶠ target.af) <ᶠ a_precision)) }
+#[tactic(auto, unfolding(crate::specs::Check::end_passes))]
+pub fn end_passes(r: &Rows, target: Target) -> bool
+    ensures { result ≡ end_passes r.now target }
 {
-    (doubles::abs(r.p - target.pf) < Profile::P_PRECISION)
-        & (doubles::abs(r.v - target.vf) < Profile::V_PRECISION)
-        & (doubles::abs(r.a - target.af) < Profile::A_PRECISION)
+    (doubles::abs(r.p[7] - target.pf) < Profile::P_PRECISION)
+        & (doubles::abs(r.v[7] - target.vf) < Profile::V_PRECISION)
+        & (doubles::abs(r.a[7] - target.af) < Profile::A_PRECISION)
 }
 
 fn a_within(b: Bounds, a: f64) -> bool
@@ -107,9 +86,10 @@ fn v_within(b: Bounds, v: f64) -> bool
 }
 
 // The accelerations of rows 1, 3 and 5 and the velocities of rows 3 to 6 are within the bounds.
-pub fn rows_pass(r1: Row, r3: Row, r4: Row, r5: Row, r6: Row, b: Bounds) -> bool
-    ensures { result ≡ ((a_within b r1.a && a_within b r3.a && a_within b r5.a) && (v_within b r3.v && v_within b r4.v && v_within b r5.v && v_within b r6.v)) }
+#[tactic(auto, unfolding(crate::specs::Check::rows_pass))]
+pub fn rows_pass(r: &Rows, b: Bounds) -> bool
+    ensures { result ≡ rows_pass r.now b }
 {
-    (a_within(b, r1.a) & a_within(b, r3.a) & a_within(b, r5.a))
-        & (v_within(b, r3.v) & v_within(b, r4.v) & v_within(b, r5.v) & v_within(b, r6.v))
+    (a_within(b, r.a[1]) & a_within(b, r.a[3]) & a_within(b, r.a[5]))
+        & (v_within(b, r.v[3]) & v_within(b, r.v[4]) & v_within(b, r.v[5]) & v_within(b, r.v[6]))
 }

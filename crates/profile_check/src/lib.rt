@@ -1,5 +1,6 @@
-// The check. A try that it refuses writes no profile: `accepts` says whether, and `filled` fills the profile in. What a
-// check takes stays apart, as the Rust's functions take it.
+// The check. A try that it refuses writes no profile: `accepts` says whether, and `filled` fills the profile in. They take
+// what the Rust's `check` takes, `set_limits` with it: of its loose arguments document 01 makes records of start, target
+// and limits only.
 #![tactic(auto)]
 
 ghost use Rattle.std.specs.Prelude.{◌≡◌, false};
@@ -9,7 +10,7 @@ mod conditions; // conditions.rt: the conditions of the check
 
 use conditions::{end_passes, phases_pass, rows_pass, sum_passes, times_pass, zeros_pass};
 use profile::{ControlSigns, Limits, Profile, ReachedLimits, Start, Target};
-use profile_rows::{Row, jerks_of, middle_row, outer_row, row_after, rows_of, sums_of};
+use profile_rows::{jerks_of, rows_of, sums_of};
 
 // Whether the times t, from the start, meet every condition of the check. The cheapest and most telling come first.
 pub fn accepts(
@@ -32,25 +33,14 @@ pub fn accepts(
     }
     let j = jerks_of(control_signs, t, jf);
     let b = limits.bounds();
-    let r0 = Row {
-        a: start.a0,
-        v: start.v0,
-        p: start.p0,
-    };
-    let r1 = outer_row(reached, set_limits, limits.a_max, row_after(r0, t[0], j[0]));
-    let r2 = row_after(r1, t[1], j[1]);
-    let r3 = middle_row(reached, set_limits, limits.a_min, row_after(r2, t[2], j[2]));
-    let r4 = row_after(r3, t[3], j[3]);
-    let r5 = outer_row(reached, set_limits, limits.a_min, row_after(r4, t[4], j[4]));
-    let r6 = row_after(r5, t[5], j[5]);
-    let r7 = row_after(r6, t[6], j[6]);
-    if !rows_pass(r1, r3, r4, r5, r6, b) {
+    let rows = rows_of(start, t, j, reached, set_limits, limits);
+    if !rows_pass(&rows, b) {
         return false;
     }
-    if !end_passes(r7, target) {
+    if !end_passes(&rows, target) {
         return false;
     }
-    zeros_pass(r2, r3, r4, r5, r6, r7, j, b)
+    zeros_pass(&rows, j, b)
 }
 
 // The boundary of q with the times t and what the check fills in.

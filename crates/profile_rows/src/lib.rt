@@ -1,4 +1,4 @@
-// What the seven phases make: sums, jerks and rows. Row i + 1 comes after phase i.
+// What the seven phases make: sums, jerks and rows. Row i + 1 comes after phase i. The Rust's formulas line by line.
 #![tactic(auto)]
 
 ghost use Rattle.std.specs.Prelude.{◌≡◌};
@@ -93,6 +93,8 @@ pub fn middle_row(reached: ReachedLimits, set_limits: bool, a_min: f64, r: Row) 
     stored_if(set_limits & reached.is_acc1(), a_min, cleared)
 }
 
+// Inlined: as a call its rows go through memory, and a plan takes 2.5 % longer.
+#[inline(always)]
 #[tactic(auto, unfolding(crate::specs::Rows::rows_of))]
 pub fn rows_of(
     start: Start,

@@ -1,4 +1,4 @@
-// What the bytes of a record mean.
+// What the bytes of a record mean. Its parts have no types of their own, so there is no `From` to read them.
 
 ghost use Rattle.std.specs.Prelude.{◌≡◌};
 ghost use Rattle.profile_test.specs.Records.{limits_of, control_signs_of, profile_of, bounds_of};
@@ -8,6 +8,8 @@ use encoding::{double_at, doubles_at};
 use profile::{ControlSigns, Limits, Profile, ReachedLimits, Start, Target};
 use profile_check::check;
 
+// Limits and control signs by their numbers: any other byte is the last name. A `TryFrom` of each enum would have the
+// same arms, and an `unwrap_or` here besides.
 #[tactic(auto, unfolding(crate::specs::Records::limits_of))]
 fn limits_of(n: u8) -> ReachedLimits
     ensures { result ≡ limits_of n }
@@ -35,6 +37,7 @@ fn control_signs_of(n: u8) -> ControlSigns
 }
 
 // An empty profile with the record's boundary and times.
+#[tactic(auto, unfolding(crate::specs::Records::profile_of, encoding::specs::Encoding::doubles_at, profile::specs::With::with_phases))]
 fn profile_of(bytes: &[u8; 147]) -> Profile
     ensures { result ≡ profile_of bytes.now }
 {

@@ -7,7 +7,7 @@ use profile::{ControlSigns, Limits, Profile, ReachedLimits};
 
 // The theorem, for all that the machine can hold: what a check accepts ends at its target when it is replayed exactly,
 // whatever the replay's j_max, if the replay takes each limit that the check stored. It takes them for a j_max above
-// 1e50.
+// 1e50. The arguments are the check's.
 pub fn replay_bound(
     q: Profile,
     control_signs: ControlSigns,

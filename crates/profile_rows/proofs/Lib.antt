@@ -1,2 +1,0 @@
--- The laws of `profile_rows`.
-pub mod RowLaws
