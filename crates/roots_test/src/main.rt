@@ -18,6 +18,7 @@ use roots::{Roots, solve_quart_monic_coeffs};
 use std::io::Read;
 
 // The roots of the record's quartic, in reading order.
+#[tactic(auto, unfolding(crate::specs::Lines::roots_of, encoding::specs::Encoding::doubles_at))]
 fn roots_of(bytes: &[u8; 32]) -> Roots
     ensures { result ≡ roots_of bytes.now }
 {
