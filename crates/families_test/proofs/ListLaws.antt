@@ -3,7 +3,7 @@ use Prim.Native.Nat.{ℕ, ◌<◌}
 use mathlib.Core.Path.{◌≡◌, ap, ◌∙◌}
 use mathlib.Core.List.{List}
 use native.Mathlib.Omega.{arith}
-use lib.ListN.{length, get_or, set, replicate, take, drop}
+use lib.ListN.{length, get_or, take, drop}
 use Rattle.std.proofs.Common.{◌+◌, ◌-◌, min, sym}
 use Rattle.std.proofs.lemmas.List.{drop-take, take_min, length-take, drop_min}
 use Rattle.profile.specs.Boundary.{empty_profile}
@@ -11,14 +11,6 @@ use Rattle.profile.specs.declared.Profile.{Profile}
 use Rattle.candidates.specs.List.{slot}
 use Rattle.candidates.specs.declared.Candidates.{Candidates}
 use Rattle.candidates.proofs.SlotLaws.{get_d_within}
-use Rattle.families_test.specs.Records.{boundary_of, list_of}
-
-pub list_is : (b : List ℕ) (n : ℕ) {q e : Profile} → q ≡ boundary_of b → e ≡ empty_profile
-    → ◌≡◌ {A = Candidates} (record { valid_profiles = set (replicate 6 e) n q; current_index = n }) (list_of b n)
-unfolding list_of
-list_is b n {q} p h =
-    ap (λ (z : Profile). record { valid_profiles = set (replicate 6 z) n q; current_index = n }) h
-    ∙ ap (λ (z : Profile). record { valid_profiles = set (replicate 6 empty_profile) n z; current_index = n }) p
 
 -- the elements from n on of the first i, taken as a part of the list
 pub part_taken : {A : Type 0} (l : List A) (i n : ℕ)

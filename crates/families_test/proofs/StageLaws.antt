@@ -137,7 +137,7 @@ module _ (start : Start) (target : Target) (k : Constants) (m : Limits) (c : Can
       (cond b2 (cond returns (stages Resting 1 4) (stages Moving 0 3))
       (cond b3 (stages Moving 16 17)
       (cond b4 (stages Moving 12 13) (cond b5 (stages Moving 14 15) (stages Moving 10 11))))))
-      → turned s.kind k w ≡ m → r ≡ found (search_of start target k w (stages_from s.kind s.from (s.to - s.from)) c)
+      → turned s.kind k w ≡ m → r ≡ found (search_of start target k w (stages_from s.kind s.numbers.start (s.numbers.end - s.numbers.start)) c)
       → r ≡ cond b0 (found (time_all_vel c start target k m))
       (cond b1 (called returns c (time_acc0_acc1 c start target k m returns))
       (cond b2 (called returns c (time_all_none_acc0_acc1 c start target k m returns))
@@ -158,7 +158,7 @@ module _ (start : Start) (target : Target) (k : Constants) (m : Limits) (c : Can
 pub family_law : (b : List ℕ) (c : Candidates) (w : Limits) {k : Constants} {s : Stages} {r : Candidates}
     → k ≡ constants_of (start_of b) (target_of b) (limits_of b)
     → s ≡ stages_of (get_or b 104 0) (eqb (get_or b 106 0) 1) → turned s.kind k w ≡ directed b
-    → r ≡ found (search_of (start_of b) (target_of b) k w (stages_from s.kind s.from (s.to - s.from)) c)
+    → r ≡ found (search_of (start_of b) (target_of b) k w (stages_from s.kind s.numbers.start (s.numbers.end - s.numbers.start)) c)
     → r ≡ after_family b c
 unfolding stages_of after_family
 family_law b c w {k} {s} {r} constants family t e =

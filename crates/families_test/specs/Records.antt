@@ -58,7 +58,7 @@ list_of b n = record { valid_profiles = set (replicate 6 empty_profile) n (bound
 
 -- ---- the stages of a search that are a family
 abbrev pub stages : Kind → (from to : ℕ) → Stages
-stages kind from to = record { kind = kind; from = from; to = to }
+stages kind from to = record { kind = kind; numbers = record { start = from; end = to } }
 
 unfoldable pub stages_of : ℕ → (return-after-found : Bool) → Stages
 stages_of family return-after-found =

@@ -26,6 +26,7 @@ fn put_profiles(line: &mut ArrayVec<u8, LINE_LENGTH>, profiles: &[Profile])
 }
 
 // The profiles of a list that were added to those counted before.
+#[tactic(auto, using(crate::proofs::ListLaws::part_taken), unfolding(crate::specs::Lines::added_line))]
 pub fn added_line(c: Candidates, counted: usize) -> ArrayVec<u8, LINE_LENGTH>
     ensures { result.items ≡ added_line c counted }
 {

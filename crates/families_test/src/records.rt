@@ -1,4 +1,5 @@
-// What the bytes of a record mean.
+// What the bytes of a record mean. They begin as a move's do, but `Move::from` is the planner's, which is built on what is
+// called here.
 
 ghost use Rattle.std.specs.Prelude.{◌≡◌, ◌<◌, ◌||◌, eqb, ltb, get_or};
 ghost use Rattle.profile_check.specs.Check.{passed};
@@ -10,6 +11,7 @@ use encoding::doubles_at;
 use phase_times::constants::Constants;
 use profile::{Limits, Profile, Start, Target};
 use search::{Kind, search};
+use std::ops::Range;
 
 #[tactic(auto, unfolding(crate::specs::Records::start_of, encoding::specs::Encoding::doubles_at))]
 fn start_of(bytes: &[u8; 108]) -> Start
@@ -42,6 +44,7 @@ fn limits_of(bytes: &[u8; 108]) -> Limits
 }
 
 // An empty profile with the record's boundary.
+#[tactic(auto, unfolding(crate::specs::Records::boundary_of, encoding::specs::Encoding::doubles_at, profile::specs::Boundary::with_boundary))]
 fn boundary_of(bytes: &[u8; 108]) -> Profile
     ensures { result ≡ boundary_of bytes.now }
 {
@@ -72,6 +75,7 @@ pub fn has_line(bytes: &[u8; 108]) -> bool
 }
 
 // A list of which n empty profiles count, and the record's boundary behind them.
+#[tactic(auto, unfolding(crate::specs::Records::list_of))]
 pub fn list_of(bytes: &[u8; 108], n: usize) -> Candidates
     requires { n < 6 }
     ensures { result ≡ list_of bytes.now n }
@@ -84,12 +88,11 @@ pub fn list_of(bytes: &[u8; 108], n: usize) -> Candidates
     }
 }
 
-// Stages of a search: those of a kind from `from` on, up to the one before `to`.
-#[derive(Clone, Copy)]
+// Stages of a search: some of a kind.
+#[derive(Drop)]
 pub struct Stages {
     pub kind: Kind,
-    pub from: usize,
-    pub to: usize,
+    pub numbers: Range<usize>,
 }
 
 // The stages that are the family of this number. With return_after_found two families are stages of a resting target.
@@ -97,21 +100,22 @@ pub struct Stages {
 fn stages_of(family: u8, return_after_found: bool) -> Stages
     ensures { result ≡ stages_of family return_after_found }
 {
-    let (kind, from, to) = match (family, return_after_found) {
-        (0, _) => (Kind::Moving, 8, 9),
-        (1, true) => (Kind::Resting, 4, 5),
-        (1, false) => (Kind::Moving, 6, 7),
-        (2, true) => (Kind::Resting, 1, 4),
-        (2, false) => (Kind::Moving, 0, 3),
-        (3, _) => (Kind::Moving, 16, 17),
-        (4, _) => (Kind::Moving, 12, 13),
-        (5, _) => (Kind::Moving, 14, 15),
-        _ => (Kind::Moving, 10, 11),
+    let (kind, numbers) = match (family, return_after_found) {
+        (0, _) => (Kind::Moving, 8..9),
+        (1, true) => (Kind::Resting, 4..5),
+        (1, false) => (Kind::Moving, 6..7),
+        (2, true) => (Kind::Resting, 1..4),
+        (2, false) => (Kind::Moving, 0..3),
+        (3, _) => (Kind::Moving, 16..17),
+        (4, _) => (Kind::Moving, 12..13),
+        (5, _) => (Kind::Moving, 14..15),
+        _ => (Kind::Moving, 10..11),
     };
-    Stages { kind, from, to }
+    Stages { kind, numbers }
 }
 
 // The limits of which stages of the kind make m: limits turned towards the target twice are as they were.
+#[tactic(auto, using(profile::proofs::SwapLaws::swapped_twice), unfolding(search::specs::Choices::towards_target, search::specs::Choices::points_up))]
 fn before_turning(kind: Kind, k: Constants, m: Limits) -> Limits
     ensures { turned kind k result ≡ m }
 {
@@ -128,13 +132,13 @@ pub fn after_family(bytes: &[u8; 108], c: Candidates) -> Candidates
     let start = start_of(bytes);
     let target = target_of(bytes);
     let k = Constants::new(start, target, limits_of(bytes));
-    let stages = stages_of(bytes[104], bytes[106] == 1);
-    let kind = stages.kind;
+    let Stages { kind, numbers } = stages_of(bytes[104], bytes[106] == 1);
     let m = before_turning(kind, k, directed(bytes));
-    search(c, start, target, k, m, kind, stages.from, stages.to)
+    search(c, start, target, k, m, kind, numbers)
 }
 
 // The first profile of a list, where it counts.
+#[tactic(auto, using(crate::proofs::ListLaws::first_slot))]
 fn first_found(c: Candidates) -> Option<Profile>
     ensures { result ≡ passed (first_found c) }
 {
@@ -146,6 +150,7 @@ fn first_found(c: Candidates) -> Option<Profile>
 }
 
 // The single-step path works on one profile.
+#[tactic(auto, using(crate::proofs::StageLaws::single_step_law), unfolding(crate::specs::Records::single_step))]
 pub fn single_step(bytes: &[u8; 108]) -> Option<Profile>
     ensures { result ≡ passed (single_step bytes.now) }
 {
@@ -154,5 +159,5 @@ pub fn single_step(bytes: &[u8; 108]) -> Option<Profile>
     let k = Constants::new(start, target, limits_of(bytes));
     let c = list_of(bytes, 0);
     let m = directed(bytes);
-    first_found(search(c, start, target, k, m, Kind::SingleStep, 0, 1))
+    first_found(search(c, start, target, k, m, Kind::SingleStep, 0..1))
 }

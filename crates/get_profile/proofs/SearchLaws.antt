@@ -1,12 +1,8 @@
 -- The cases of a search and of an answer, as the code meets them. Assumes nothing.
-use Prim.Native.Nat.{ℕ, ◌-◌, ◌<◌, ◌≤◌}
+use Prim.Native.Nat.{ℕ, ◌-◌}
 use mathlib.Core.Path.{◌≡◌, refl, sym, ap, ◌∙◌}
 use mathlib.Core.Bool.{Bool, true, false, not, false≢true}
-use Rattle.std.proofs.Common.{Ok, Err}
 use native.Mathlib.Nat.{sub-zero}
-use native.Mathlib.Omega.{arith}
-use borrow.Author.Tests.{lt-ltb, le-ltb}
-use lib.ListN.{length, get_or}
 use Rattle.profile.specs.Boundary.{start_of, target_of, empty_profile, boundary_from}
 use Rattle.profile.specs.declared.Profile.{Profile}
 use Rattle.profile.specs.declared.Start.{Start}
@@ -19,18 +15,14 @@ use Rattle.trees.proofs.TreeLaws.{run_bind}
 use Rattle.candidates.specs.Try.{passes}
 use Rattle.candidates.specs.List.{slot, fresh_list}
 use Rattle.candidates.specs.declared.Candidates.{Candidates}
-use Rattle.candidates.proofs.SlotLaws.{get_d_within}
 use Rattle.position_third_step1.specs.CheckTree.{CheckTree, found}
 use Rattle.position_third_step1.specs.TimeAllSingleStep.{time_all_single_step}
 use Rattle.search.specs.Choices.{has_zero_limit, ends_at_rest, rests_at_target}
 use Rattle.search.specs.Stages.{kind_of, stage_count, stages_from, is_found, search_of}
 use Rattle.search.specs.declared.stages.Kind.{Kind}
 use Rattle.block.specs.Selection.{selected}
-use Rattle.block.specs.Blocks.{no_interval, block_of, Answer}
-use Rattle.block.specs.declared.Interval.{Interval}
-use Rattle.block.specs.declared.Block.{Block}
-use Rattle.refusals.specs.declared.Refusal.TheVariants.{NoProfile}
-use Rattle.get_profile.specs.GetProfile.{moving, first_search, try_families, after_passing, single_step_answer}
+use Rattle.block.specs.Blocks.{Answer}
+use Rattle.get_profile.specs.GetProfile.{moving, first_search, try_families, single_step_answer}
 use Rattle.get_profile.specs.GetProfile.{single_step_from, selected_from, get_profile_by, get_profile}
 use Rattle.get_profile.specs.GetProfile.{get_profile_answer}
 use Rattle.get_profile.proofs.StageTie.{stages_are_calls, stage_is_single_step}
@@ -107,17 +99,3 @@ module _ (input : Profile) (m : Limits) where
         (stages_are_calls (start_of input) (target_of input) (k input m) m (fresh_list input) (none_yet input)
         (sym ez ∙ h))
         ∙ sym (searched_is input m (sym ez ∙ h))
-
--- ---- the single-step path's answer by the first slot; d is what the code takes to lie past the end
-module _ (start : Start) (c : Candidates) where
-  pub first_planned : length c.valid_profiles ≡ 6 → 0 < c.current_index → (d : Profile) {a b : Interval}
-      → a ≡ after_passing start (get_or c.valid_profiles 0 d) → b ≡ no_interval
-      → {r : Block} → r ≡ block_of (get_or c.valid_profiles 0 d) a b → Ok r ≡ single_step_from start c
-  unfolding single_step_from
-  first_planned six h d ea eb {r} e =
-      let within : 0 < length c.valid_profiles = omega arith in
-      ap Ok e ∙ rw (lt-ltb 0 _ h, ea, eb, get_d_within c.valid_profiles 0 d empty_profile within)
-
-  pub none_planned : c.current_index ≤ 0 → Err NoProfile ≡ single_step_from start c
-  unfolding single_step_from
-  none_planned h = rw (le-ltb 0 _ h)

@@ -24,6 +24,7 @@ fn after_passing(start: Start, q: Profile) -> Interval
 }
 
 // The answer of the single-step path, of the list that its search found.
+#[tactic(auto, using(candidates::proofs::SlotLaws::get_d_within), unfolding(crate::specs::GetProfile::single_step_from))]
 fn single_step_answer(start: Start, c: Candidates) -> Result<Block, Refusal>
     ensures { result ≡ single_step_from start c }
 {
@@ -43,8 +44,8 @@ pub fn get_profile(input: Profile, m: Limits) -> Result<Block, Refusal>
     let target = input.target();
     let k = Constants::new(start, target, m);
     let kind = kind_of(start, target, k, m);
-    let stages = stage_count(kind);
-    let c = search(Candidates::new(input), start, target, k, m, kind, 0, stages);
+    let stages = 0..stage_count(kind);
+    let c = search(Candidates::new(input), start, target, k, m, kind, stages);
     if has_zero_limit(m) {
         return single_step_answer(start, c);
     }

@@ -11,6 +11,6 @@ unfolding sqrt_of of_bits
 sqrt_three = refl
 
 -- EPS_M_BY_16, which is exact: 2 ^ -48
-pub 16eps_value : 16eps ≡ of_bits binary64 0x3cf0_0000_0000_0000
+pub eps_by_16 : 16eps ≡ of_bits binary64 0x3cf0_0000_0000_0000
 unfolding mul of_bits
-16eps_value = refl
+eps_by_16 = refl

@@ -152,3 +152,8 @@ all_so_far v e n i h = by_cases (ltb n 4)
       drop_of_length-le v {i = n} (omega arith),
       drop_of_length-le v {i = 4} (omega arith),
     ))
+
+-- ---- what the check looks for of the reading order
+pub ruleset of_order = (none_so_far, next_so_far, all_so_far)
+
+pub ruleset of_places = (placed_behind, kept)

@@ -1,5 +1,5 @@
--- `solve_resolvent` for any doubles, in the Rust's order of operations: the count, 1, 2 or 3,
--- and the three numbers. Definitions only.
+-- `solve_resolvent` for any doubles, in the Rust's order of operations: the zeros with their names, one, two or three,
+-- and the Rust's count of them. Definitions only.
 use Rattle.std.specs.Prelude.{ℕ, cond, Float}
 use Rattle.std.specs.Float.{binary64}
 use Rattle.std.specs.Float.Ieee.{of_bits}

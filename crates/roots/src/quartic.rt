@@ -26,7 +26,8 @@ pub fn solve_quart_monic_coeffs(a: f64, b: f64, c: f64, d: f64) -> Roots
     roots_by_factors(a, b, c, d)
 }
 
-// The list with the roots of x² + p x + q: one where the discriminant is within the tolerance of 0, two where it is above 0.
+// The list with the roots of x² + p x + q: one where the discriminant is within the tolerance of 0, two where it is
+// above 0.
 #[tactic(auto, unfolding(crate::specs::Quartic::with_quadratic))]
 fn with_quadratic(roots: Roots, p: f64, q: f64, tolerance: f64) -> Roots
     ensures { result ≡ with_quadratic roots p q tolerance }
@@ -44,6 +45,7 @@ fn with_quadratic(roots: Roots, p: f64, q: f64, tolerance: f64) -> Roots
     roots
 }
 
+#[tactic(auto, using(crate::proofs::Constants::eps_by_16), unfolding(crate::specs::Quartic::roots_by_factors))]
 fn roots_by_factors(a: f64, b: f64, c: f64, d: f64) -> Roots
     ensures { result ≡ roots_by_factors a b c d }
 {

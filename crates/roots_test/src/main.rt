@@ -18,6 +18,7 @@ use roots::{Roots, solve_quart_monic_coeffs};
 use std::io::Read;
 
 // The roots of the record's quartic, in reading order.
+#[tactic(auto, unfolding(crate::specs::Lines::roots_of, encoding::specs::Encoding::doubles_at))]
 fn roots_of(bytes: &[u8; 32]) -> Roots
     ensures { result ≡ roots_of bytes.now }
 {
@@ -25,12 +26,11 @@ fn roots_of(bytes: &[u8; 32]) -> Roots
     solve_quart_monic_coeffs(a, b, c, d).ascending()
 }
 
-// The first `count` of the values.
-fn put_values(line: &mut ArrayVec<u8, 89>, values: [f64; 4], count: usize)
+fn put_roots(line: &mut ArrayVec<u8, 89>, list: Roots)
     requires { array_vec_len line.old + 68 ≤ 89 }
-    ensures { Appends line.old line.new (double_fields (take count values)) 68 }
+    ensures { Appends line.old line.new (double_fields (take list.count list.values)) 68 }
 {
-    put_doubles(line, &values[..count.min(4)]);
+    put_doubles(line, &list.values[..list.count.min(4)]);
 }
 
 struct Quartics;
@@ -51,7 +51,7 @@ impl Answers<89> for Quartics {
         let list = roots_of(&of);
         let mut line = ArrayVec::new();
         put_decimal(&mut line, list.count as u64);
-        put_values(&mut line, list.values, list.count);
+        put_roots(&mut line, list);
         put(&mut line, b"\n");
         line
     }

@@ -11,8 +11,6 @@ use lib.Dec.{ltb}
 use lib.Ieee.{Float}
 use lib.ListN.{length, drop, get_or, set, length-set, drop_of_length-le}
 use lib.Seq.{drop-cons}
-use mir.Syntax.{w64}
-use mir.Val.{Fits}
 use Rattle.doubles.specs.Constants.{0ᶠ}
 use Rattle.profile.specs.Boundary.{empty_profile, boundary_from}
 use Rattle.profile.specs.declared.Profile.{Profile}
@@ -229,9 +227,6 @@ none_left i count n to h = go (ltb i count) (ltb n to) refl refl h
     go true b ea eb e = absurd (true≢false e)
     go false true ea eb e = absurd (true≢false e)
     go false false ea eb e = (ltb-false i count ea, ltb-false n to eb)
-
-pub next_fits : {n to : ℕ} → n < to → Fits w64 to → Fits w64 (n + 1)
-next_fits h f = omega (arith, h, f)
 
 -- ---- how much is left: a turn for each stage and for each of its slots
 module _ (start : Start) (target : Target) (k : Constants) (m : Limits) where

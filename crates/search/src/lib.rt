@@ -17,16 +17,17 @@ use position_third_step1::{Family, Shared, shared, slot_count, slot_holds, slot_
 use profile::{Limits, Start, Target};
 pub use stages::{Kind, Stage, Way, kind_of, stage_count};
 use stages::{limits_for, stage_at};
+use std::ops::Range;
 
-// The slot after a success: where a stage stops there is none.
+// The slot after a success: where a stage stops there is none. `stops` is the stage's flag, handed on.
 fn slot_after(stops: bool, count: usize, next: usize) -> usize
     ensures { result ≡ cond stops count next }
 {
     if stops { count } else { next }
 }
 
-// The list after the stages of a kind from `from` on, up to the one before `to`. A turn enters a stage or tries a slot:
-// two loops, one in the other, were measured to be slower (entry 59 of docs/DECISIONS.md).
+// The list after these stages of a kind. A turn enters a stage or tries a slot: two loops, one in the other, were
+// measured to be slower (entry 59 of docs/DECISIONS.md).
 pub fn search(
     c: Candidates,
     start: Start,
@@ -34,13 +35,13 @@ pub fn search(
     k: Constants,
     m: Limits,
     kind: Kind,
-    from: usize,
-    to: usize,
+    stages: Range<usize>,
 ) -> Candidates
-    ensures { result ≡ found (search_of start target k m (stages_from kind from (to - from)) c) }
+    ensures { result ≡ found (search_of start target k m (stages_from kind stages.start (stages.end - stages.start)) c) }
 {
     let mut d = c;
-    let mut n = from;
+    let mut n = stages.start;
+    let to = stages.end;
     let mut family = Family::None;
     let mut w = m;
     let mut stops = false;

@@ -29,7 +29,8 @@ pub enum Way {
 }
 
 // A family in one direction. A guarded stage is entered only where no profile was found; one that stops ends at its
-// first success.
+// first success. These are the Rust's two habits, and each goes its own way: hence two flags (entry 75 of
+// docs/DECISIONS.md).
 #[derive(Clone, Copy)]
 pub struct Stage {
     pub family: Family,
@@ -175,8 +176,9 @@ pub fn stage_count(kind: Kind) -> usize
     }
 }
 
-// The stage n. The first search of a rest that is its own target has three stages, that of another move ten; the
-// two-step families follow.
+// The stage n: by number, as the search holds its place and the definitions count; a table of stages would have no
+// answer for numbers behind its end. The first search of a rest that is its own target has three stages, that of another
+// move ten; the two-step families follow.
 #[tactic(auto, unfolding(crate::specs::Stages::stage_at))]
 pub fn stage_at(kind: Kind, n: usize) -> Stage
     ensures { result ≡ stage_at kind n }

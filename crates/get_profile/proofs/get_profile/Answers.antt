@@ -9,7 +9,7 @@ over : (c : After-search-c) → c.search-c.result ≡ searched_all c.args.input 
 over c =
     over_all c.args.input c.args.m {kind = c.kind_of-kind.result}
     (rw (← c.start-start.ensures, ← c.target-target.ensures, ← c.new-k.ensures) c.kind_of-kind.ensures)
-    c.stage_count-stages.ensures
+    c.stage_count.ensures
     (rw (
       ← c.start-start.ensures,
       ← c.target-target.ensures,

@@ -8,7 +8,7 @@ use Rattle.candidates.specs.declared.Candidates.{Candidates}
 use Rattle.candidates.specs.List.{added}
 use Rattle.candidates.proofs.SlotLaws.{six_slots, added_below, added_last, added_out}
 use Rattle.search.proofs.PlaceLaws.{later, Place, outset, at_end, at_guard, enter, skip, refuse, accept}
-use Rattle.search.proofs.PlaceLaws.{stage_left, none_left, next_fits, fewer, fewer_slots}
+use Rattle.search.proofs.PlaceLaws.{stage_left, none_left, fewer, fewer_slots}
 use Rattle.search.proofs.search.Goals.{After-slot_after-i}
 use Rattle.search.proofs.search.Goals as goal
 
@@ -23,7 +23,7 @@ returns-then-stage-d c =
 
 pub overflow_add-n : goal.overflow_add-n
 overflow_add-n c =
-    next_fits (stage_left _ _ _ _ c.loop-i-test.true c.if-i-count.true) c.ranges.to
+    omega (arith, stage_left _ _ _ _ c.loop-i-test.true c.if-i-count.true)
 
 pub loop-i-smaller-then-i-count : goal.loop-i-smaller-then-i-count
 loop-i-smaller-then-i-count c =
@@ -67,8 +67,8 @@ success : (p : After-slot_after-i) {d : Candidates}
     → d ≡ added p.loop-i.d p.try_by-x.result
     → let x = p.args in
     let l = p.loop-i in
-    Place x.start x.target x.k x.m x.kind x.to
-    (later x.start x.target x.k x.m x.kind x.to x.from x.c)
+    Place x.start x.target x.k x.m x.kind x.stages.end
+    (later x.start x.target x.k x.m x.kind x.stages.end x.stages.start x.c)
     d l.n l.family l.w l.stops l.s l.count p.slot_after-i.result
 success p e =
     accept _ _ _ _ _ _ p.loop-i.invariant p.if-i-count.false p.slot_holds.ensures

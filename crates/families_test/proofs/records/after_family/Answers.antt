@@ -6,6 +6,6 @@ pub returns : goal.returns
 returns c =
     family_law _ _ _
     (rw (c.start_of-start.ensures, c.target_of-target.ensures, c.limits_of.ensures) at c.new-k.ensures)
-    c.stages_of-stages.ensures
+    c.stages_of-kind.ensures
     (rw c.directed.ensures at c.before_turning-m.ensures)
     (rw (c.start_of-start.ensures, c.target_of-target.ensures) at c.search.ensures)

@@ -2,7 +2,7 @@
 use borrow.Author.Rules.{rules}
 use mathlib.Core.Path.{sym, ◌∙◌}
 use Rattle.roots.specs.List.{placed_at}
-use Rattle.roots.proofs.Placing.{placed_before, placed_behind, turned, kept}
+use Rattle.roots.proofs.Placing.{placed_before, turned}
 use Rattle.roots.proofs.list.place.Goals as goal
 
 pub returns-in-Some : goal.returns-in-Some
@@ -10,9 +10,3 @@ unfolding placed_at
 returns-in-Some c =
     rw (placed_before _ _ _ (sym c.place_of.ensures ∙ c.in-Some.is), c.rotate_right.ensures.after)
     (turned c.args.values.now (search rules) c.args.i c.in-Some.at c.requires (search rules))
-
-pub returns-in_default : goal.returns-in_default
-unfolding placed_at
-returns-in_default c =
-    rw (placed_behind _ _ (sym c.place_of.ensures ∙ c.in_default.is))
-    (kept c.args.values.now (search rules) c.args.i c.requires)
