@@ -20,13 +20,13 @@ use Rattle.profile.specs.contracts.Profile.{the_row, the_type}
 use Rattle.profile.proofs.Profile.TheLaws.{the_laws, the_copy}
 use Rattle.block.specs.Blocks.{total, no_interval, interval_between, block_of, Answer}
 use Rattle.block.specs.Selection.{32ᶠ, 256ᶠ, slot, same_direction, near, fastest, of_two, of_three, with_two, of_five}
-use Rattle.block.specs.Selection.{alike_removal, removal, moved_up, without, of_four, selected}
+use Rattle.block.specs.Selection.{alike_removal, removal, without, of_four, selected}
 use Rattle.block.specs.Steps.{removed}
 use Rattle.block.specs.declared.Interval.{Interval}
 use Rattle.refusals.specs.declared.Refusal.TheVariants.{NoRemoval}
 use Rattle.block.specs.declared.Block.{Block}
 use Rattle.block.proofs.FastestLaws.{next_faster, next_not_faster}
-use Rattle.block.proofs.SelectionLaws.{Same, three_same, five_same, removal_same, moved_below, four_same}
+use Rattle.block.proofs.SelectionLaws.{Same, three_same, five_same, removal_same, four_same}
 
 -- the first n profiles
 abbrev pub firsts : ℕ → (ℕ → Profile) → List Profile
@@ -58,13 +58,6 @@ module _ (l : List Profile) (d : Profile) {n : ℕ} (size : length l ≡ n) wher
 
 -- ---- count 4
 module _ (l : List Profile) (d : Profile) (size : length l ≡ 4) where
-  pub removed_made : (index : ℕ) {x0 x1 x2 : ℕ} → x0 ≡ moved_up index 0 → x1 ≡ moved_up index 1 → x2 ≡ moved_up index 2
-      → ◌≡◌ {A = List Profile} (read l d x0 ∷ read l d x1 ∷ read l d x2 ∷ []) (removed index (slot l))
-  removed_made index e0 e1 e2 = rw (e0, e1, e2, same 0 (omega arith), same 1 (omega arith), same 2 (omega arith))
-    where
-      same : (i : ℕ) → i + 1 < 4 → read l d (moved_up index i) ≡ slot l (moved_up index i)
-      same i h = read_same l d size (moved_up index i) (moved_below 4 index i h)
-
   -- x and y are what the code finds of the first rule, z and w of the second, v of the third
   module _ {t0 t1 t2 t3 : Float} (e0 : t0 ≡ total (read l d 0)) (e1 : t1 ≡ total (read l d 1))
       (e2 : t2 ≡ total (read l d 2)) (e3 : t3 ≡ total (read l d 3))

@@ -1,4 +1,5 @@
 -- The laws of `block`. Those for whole plans: MemberLaws, StretchLaws, LeastLaws, AfterLaws, RefusalLaws.
+pub mod AlikeLaws
 pub mod DirectionLaws
 pub mod FastestLaws
 pub mod SelectionLaws

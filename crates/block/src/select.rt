@@ -1,7 +1,7 @@
 // calculate_block: the shortest of the profiles that count, and the stretches between the others. An array holds as
 // many profiles as count.
 
-ghost use Rattle.std.specs.Prelude.{◌≡◌, ◌<◌, ◌-◌};
+ghost use Rattle.std.specs.Prelude.{◌≡◌, ◌<◌, ◌≤◌, ◌+◌, ◌-◌};
 ghost use Rattle.block.specs.Selection.{slot, fastest, of_two, of_three, with_two, of_five, moved_up, of_four, selected};
 ghost use Rattle.block.specs.Steps.{removed};
 
@@ -55,7 +55,8 @@ fn of_three(profiles: [Profile; 3]) -> Block
 #[tactic(auto, unfolding(crate::specs::Selection::moved_up))]
 fn moved_up(index: usize, i: usize) -> usize
     requires { i < 3 }
-    ensures { result ≡ moved_up index i }
+    ensures place { result ≡ moved_up index i }
+    ensures below { result ≤ i + 1 }
 {
     if i < index { i } else { i + 1 }
 }
@@ -63,10 +64,7 @@ fn moved_up(index: usize, i: usize) -> usize
 fn remove_profile(profiles: [Profile; 4], index: usize) -> [Profile; 3]
     ensures { result ≡ removed index (slot profiles) }
 {
-    let first = profiles[moved_up(index, 0)];
-    let second = profiles[moved_up(index, 1)];
-    let third = profiles[moved_up(index, 2)];
-    [first, second, third]
+    std::array::from_fn(|i| profiles[moved_up(index, i)])
 }
 
 fn of_four(profiles: [Profile; 4]) -> Result<Block, Refusal>
