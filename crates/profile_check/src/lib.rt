@@ -13,6 +13,7 @@ use profile::{ControlSigns, Limits, Profile, ReachedLimits, Start, Target};
 use profile_rows::{jerks_of, rows_of, sums_of};
 
 // Whether the times t, from the start, meet every condition of the check. The cheapest and most telling come first.
+#[tactic(auto, using(crate::proofs::CheckLaws::tested))]
 pub fn accepts(
     start: Start,
     target: Target,
