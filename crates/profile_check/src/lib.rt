@@ -1,6 +1,6 @@
-// The check. A try that it refuses writes no profile: `accepts` says whether, and `filled` fills the profile in. They take
-// what the Rust's `check` takes, `set_limits` with it: of its loose arguments document 01 makes records of start, target
-// and limits only.
+// The check. A try that it refuses writes no profile: `accepts` says whether, and `filled` fills the profile in. They
+// take what the Rust's `check` takes, `set_limits` with it: of its loose arguments document 01 makes records of start,
+// target and limits only.
 #![tactic(auto)]
 
 ghost use Rattle.std.specs.Prelude.{◌≡◌, false};
