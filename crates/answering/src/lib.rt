@@ -33,8 +33,8 @@ pub fn read_array<R: Read, const N: usize>(reader: &mut R) -> Option<[u8; N]>
     Some(array)
 }
 
-// The next `count` bytes, or nothing where the input ends before or they are more than `MOST`. The record says how many;
-// what is read has its own length.
+// The next `count` bytes, or nothing where the input ends before or they are more than `MOST`. A record says how many
+// it has; what is read knows its own length.
 pub fn read_bytes<R: Read, const MOST: usize>(
     reader: &mut R,
     count: usize,

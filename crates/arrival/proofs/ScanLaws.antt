@@ -457,3 +457,6 @@ module _ (durations ends : List Float) where
         has_it = l.has_it;
         lowest = l.lowest;
       }
+
+-- whether two slices are those of `Axes`
+pub ruleset judged = (refused_by_count, refused_by_length, admitted)

@@ -39,6 +39,7 @@ pub struct Axes<'a> {
 
 impl<'a> Axes<'a> {
     // Refused where number 9 applies.
+    #[tactic(auto, using(crate::proofs::ScanLaws::judged))]
     pub fn new(durations: &'a [f64], ends: &'a [f64]) -> Result<Axes<'a>, Refusal>
         ensures ok { IfOk result (λ axes. (axes.durations.now ≡ durations.now) × (axes.ends.now ≡ ends.now)) }
         ensures err { IfErr result
@@ -60,6 +61,7 @@ impl<'a> Axes<'a> {
         Ok(Axes { durations, ends })
     }
 
+    #[tactic(auto, using(crate::proofs::ScanLaws::four_ends))]
     fn axis(&self, i: usize) -> Axis
         requires { i < length self.now.durations.now }
         ensures { result ≡ axis_of self.now.durations.now self.now.ends.now i }

@@ -18,8 +18,9 @@ pub struct Try {
     pub limits: Limits,
 }
 
-// Six profiles, of which the first `current_index` count. The one after them is where the next try is made. An array and
-// a count, as document 01 says, and no ArrayVec: its definitions tell what lies in all six, also behind those that count.
+// Six profiles, of which the first `current_index` count. The one after them is where the next try is made. An array
+// and a count, as document 01 says, and no ArrayVec: the definitions tell what lies in all six, also behind those that
+// count.
 #[derive(Clone, Copy)]
 pub struct Candidates {
     pub valid_profiles: [Profile; 6],

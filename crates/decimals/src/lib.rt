@@ -13,6 +13,7 @@ use profile_lines::put;
 pub const DECIMAL_WIDTH: usize = 20;
 
 // A number with no space in front.
+#[tactic(auto, using(crate::proofs::DecimalLaws::at_most_twenty, crate::proofs::DecimalLaws::decimal_is))]
 pub fn put_decimal<const N: usize>(line: &mut ArrayVec<u8, N>, n: u64)
     requires { array_vec_len line.old + decimal_width ≤ N }
     ensures { Appends line.old line.new (decimal n) decimal_width }

@@ -16,6 +16,7 @@ pub fn double_at(b: &[u8], at: usize) -> f64
 }
 
 // N doubles one behind the other, the first of them at `at`.
+#[tactic(auto, using(crate::proofs::Laws::one_more), unfolding(crate::specs::Encoding::doubles_at))]
 pub fn doubles_at<const N: usize>(b: &[u8], at: usize) -> [f64; N]
     requires { at + 8 * N ≤ length b.now }
     ensures { result ≡ doubles_at b.now at N }

@@ -49,3 +49,6 @@ module _ (start : Start) (target : Target) (t : List Float) (signs : ControlSign
     by_rows h {j} {r} {b} ej er eb e =
         rw (← e1, h1, ← e2, ← e3, h, ← ej, ← er, ← eb)
         (e ∙ turned (zeros_pass r j b) (end_passes r target) (rows_pass r b))
+
+-- what `accepts` answers at each of its ends
+pub ruleset tested = (refused_times, refused_phases, by_rows)

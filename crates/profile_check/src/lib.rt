@@ -1,6 +1,6 @@
-// The check. A try that it refuses writes no profile: `accepts` says whether, and `filled` fills the profile in. They take
-// what the Rust's `check` takes, `set_limits` with it: of its loose arguments document 01 makes records of start, target
-// and limits only.
+// The check. A try that it refuses writes no profile: `accepts` says whether, and `filled` fills the profile in. They
+// take what the Rust's `check` takes, `set_limits` with it: of its loose arguments document 01 makes records of start,
+// target and limits only.
 #![tactic(auto)]
 
 ghost use Rattle.std.specs.Prelude.{◌≡◌, false};
@@ -13,6 +13,7 @@ use profile::{ControlSigns, Limits, Profile, ReachedLimits, Start, Target};
 use profile_rows::{jerks_of, rows_of, sums_of};
 
 // Whether the times t, from the start, meet every condition of the check. The cheapest and most telling come first.
+#[tactic(auto, using(crate::proofs::CheckLaws::tested))]
 pub fn accepts(
     start: Start,
     target: Target,

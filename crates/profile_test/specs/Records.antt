@@ -33,10 +33,10 @@ control_signs_of n = cond (eqb n 0) UDDU UDUD
 
 -- ---- the arguments of a check
 
-abbrev pub start_of : List ℕ → Start
+unfoldable pub start_of : List ℕ → Start
 start_of b = record { p0 = double_at b 0; v0 = double_at b 8; a0 = double_at b 16 }
 
-abbrev pub target_of : List ℕ → Target
+unfoldable pub target_of : List ℕ → Target
 target_of b = record { pf = double_at b 24; vf = double_at b 32; af = double_at b 40 }
 
 -- an empty profile with the record's boundary and times

@@ -37,7 +37,6 @@ fn control_signs_of(n: u8) -> ControlSigns
 }
 
 // An empty profile with the record's boundary and times.
-#[tactic(auto, unfolding(crate::specs::Records::profile_of, encoding::specs::Encoding::doubles_at, profile::specs::With::with_phases))]
 fn profile_of(bytes: &[u8; 147]) -> Profile
     ensures { result ≡ profile_of bytes.now }
 {
