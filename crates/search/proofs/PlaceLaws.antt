@@ -256,9 +256,3 @@ module _ (start : Start) (target : Target) (k : Constants) (m : Limits) where
       fewer count i ew es {count'} ec =
           let all : count' ≡ length (slots_in x) = rw (ec, es, ew) in
           omega (arith, all, turns_of)
-
-    -- after a success
-    pub fewer_slots : (n count i : ℕ) (stops : Bool) → i < count → {i' : ℕ} → i' ≡ cond stops count (i + 1)
-        → turns_from n count i' < turns_from n count i
-    fewer_slots n count i true h e = omega (arith, h, e)
-    fewer_slots n count i false h e = omega (arith, h, e)

@@ -3,12 +3,11 @@
 use mathlib.Core.Path.{◌≡◌, ap}
 use mathlib.Core.Bool.{not}
 use native.Mathlib.Nat.{le_of_suc-le-suc}
-use native.Mathlib.Omega.{arith}
 use Rattle.candidates.specs.declared.Candidates.{Candidates}
 use Rattle.candidates.specs.List.{added}
 use Rattle.candidates.proofs.SlotLaws.{six_slots, added_below, added_last, added_out}
 use Rattle.search.proofs.PlaceLaws.{later, Place, outset, at_end, at_guard, enter, skip, refuse, accept}
-use Rattle.search.proofs.PlaceLaws.{stage_left, none_left, fewer, fewer_slots}
+use Rattle.search.proofs.PlaceLaws.{stage_left, none_left, fewer}
 use Rattle.search.proofs.search.Goals.{After-slot_after-i}
 use Rattle.search.proofs.search.Goals as goal
 
@@ -20,10 +19,6 @@ pub returns-then-stage-d : goal.returns-then-stage-d
 returns-then-stage-d c =
     at_guard _ _ _ _ _ _ c.loop-i.invariant c.if-i-count.true (stage_left _ _ _ _ c.loop-i-test.true c.if-i-count.true) c.stage_at-stage.ensures
     c.if-stage-d.true
-
-pub overflow_add-n : goal.overflow_add-n
-overflow_add-n c =
-    omega (arith, stage_left _ _ _ _ c.loop-i-test.true c.if-i-count.true)
 
 pub loop-i-smaller-then-i-count : goal.loop-i-smaller-then-i-count
 loop-i-smaller-then-i-count c =
@@ -40,18 +35,9 @@ loop-i-preserved-then-i-count c =
     c.shared-s.ensures
     c.slot_count-count.ensures
 
-pub overflow_add-i : goal.overflow_add-i
-overflow_add-i c = omega (arith, c.if-i-count.false, c.loop-i.invariant.four)
-
-pub loop-i-smaller-then-not-slot_holds : goal.loop-i-smaller-then-not-slot_holds
-loop-i-smaller-then-not-slot_holds c = omega (arith, c.if-i-count.false)
-
 pub loop-i-preserved-then-not-slot_holds : goal.loop-i-preserved-then-not-slot_holds
 loop-i-preserved-then-not-slot_holds c =
     skip _ _ _ _ _ _ c.loop-i.invariant c.if-i-count.false c.slot_holds.ensures (ap not c.if-not-slot_holds.true)
-
-pub loop-i-smaller-then-not-passes : goal.loop-i-smaller-then-not-passes
-loop-i-smaller-then-not-passes c = omega (arith, c.if-i-count.false)
 
 pub loop-i-preserved-then-not-passes : goal.loop-i-preserved-then-not-passes
 loop-i-preserved-then-not-passes c =
@@ -80,10 +66,6 @@ success p e =
     p.slot_after-i.ensures
     e
 
-pub loop-i-smaller-then-at-lt5 : goal.loop-i-smaller-then-at-lt5
-loop-i-smaller-then-at-lt5 c =
-    fewer_slots _ _ _ _ _ _ _ _ _ c.loop-i.stops c.if-i-count.false c.slot_after-i.ensures
-
 pub loop-i-preserved-then-at-lt5 : goal.loop-i-preserved-then-at-lt5
 loop-i-preserved-then-at-lt5 c =
     let stored = c.before.before.before in
@@ -91,19 +73,11 @@ loop-i-preserved-then-at-lt5 c =
     (added_below _ _ c.loop-i.invariant.six _ c.if-at-lt5.true c.profile_of-profile.ensures
     c.with_boundary_from_profile.ensures)
 
-pub loop-i-smaller-else-at-lt5 : goal.loop-i-smaller-else-at-lt5
-loop-i-smaller-else-at-lt5 c =
-    fewer_slots _ _ _ _ _ _ _ _ _ c.loop-i.stops c.if-i-count.false c.slot_after-i.ensures
-
 pub loop-i-preserved-else-at-lt5 : goal.loop-i-preserved-else-at-lt5
 loop-i-preserved-else-at-lt5 c =
     success c.before.before.before.before
     (added_last _ _ c.loop-i.invariant.six _ (le_of_suc-le-suc c.if-at-lt6.true) c.if-at-lt5.false
     c.profile_of-profile.ensures)
-
-pub loop-i-smaller : goal.loop-i-smaller
-loop-i-smaller c = fewer_slots _ _ _ _ _ _ _ _ _ c.loop-i.stops c.if-i-count.false
-    c.slot_after-i.ensures
 
 pub loop-i-preserved : goal.loop-i-preserved
 loop-i-preserved c = success c.before (added_out _ _ c.loop-i.invariant.six c.if-at-lt6.false)
