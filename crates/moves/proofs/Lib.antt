@@ -1,3 +1,4 @@
 -- The laws of `moves`.
 pub mod CountLaws
+pub mod Putting
 pub mod RecordLaws

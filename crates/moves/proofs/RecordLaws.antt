@@ -55,3 +55,6 @@ by_case false false x = (
 pub reads : (b : List ℕ) (r : Option (Result Move Refusal)) → r ≡ record_of b → Reads b r
 unfolding record_of
 reads b r e = record { record_is = e; eight = rw e (by_case (eqb (length b) 0) (is_malformed b) (record_move b)) }
+
+-- how a record is read, for the proofs
+pub ruleset reading = (reads, is_long)

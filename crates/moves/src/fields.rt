@@ -18,6 +18,7 @@ use profile_lines::{put_double, put_field, put_name, put_profile_fields};
 use stretch_lines::{Kind, put_both_ends};
 
 // How many stretches there are: 0, 1 or 2.
+#[tactic(auto, using(crate::proofs::Putting::putting))]
 fn put_count<const N: usize>(line: &mut ArrayVec<u8, N>, a: Stretch, b: Stretch)
     requires { array_vec_len line.old + count_width ≤ N }
     ensures { Appends line.old line.new (field (decimal (count_of a + count_of b))) count_width }
@@ -25,17 +26,18 @@ fn put_count<const N: usize>(line: &mut ArrayVec<u8, N>, a: Stretch, b: Stretch)
     put_field(line, &[b'0' + (a.count() + b.count())]);
 }
 
+#[tactic(auto, using(crate::proofs::Putting::putting), unfolding(profile_lines::specs::Fields::double_fields))]
 fn put_ends<const N: usize>(line: &mut ArrayVec<u8, N>, s: Stretch)
     requires { array_vec_len line.old + both_ends_width ≤ N }
     ensures { Appends line.old line.new (double_fields (ends_of s)) both_ends_width }
 {
     match s {
         Stretch::Nothing => {}
-        Stretch::Between(_, _) => put_both_ends(line, s),
-        Stretch::From(_) => put_both_ends(line, s),
+        Stretch::Between(_, _) | Stretch::From(_) => put_both_ends(line, s),
     }
 }
 
+#[tactic(auto, using(crate::proofs::Putting::putting), unfolding(crate::specs::Lines::stretch_fields))]
 fn put_stretches<const N: usize>(line: &mut ArrayVec<u8, N>, a: Stretch, b: Stretch)
     requires { array_vec_len line.old + stretches_width ≤ N }
     ensures { Appends line.old line.new (stretch_fields a b) stretches_width }
@@ -46,6 +48,7 @@ fn put_stretches<const N: usize>(line: &mut ArrayVec<u8, N>, a: Stretch, b: Stre
 }
 
 // What document 01 has of a plan.
+#[tactic(auto, using(crate::proofs::Putting::putting), unfolding(crate::specs::Lines::plan_fields))]
 pub fn put_plan<const N: usize>(line: &mut ArrayVec<u8, N>, x: Block)
     requires { array_vec_len line.old + plan_width ≤ N }
     ensures { Appends line.old line.new (plan_fields x) plan_width }
@@ -57,6 +60,7 @@ pub fn put_plan<const N: usize>(line: &mut ArrayVec<u8, N>, x: Block)
     put_stretches(line, x.a.stretch, x.b.stretch);
 }
 
+#[tactic(auto, using(crate::proofs::Putting::putting), unfolding(crate::specs::Lines::refusal_fields))]
 pub fn put_refusal<const N: usize>(line: &mut ArrayVec<u8, N>, number: u64)
     requires { array_vec_len line.old + refusal_width ≤ N }
     ensures { Appends line.old line.new (refusal_fields number) refusal_width }
@@ -66,6 +70,7 @@ pub fn put_refusal<const N: usize>(line: &mut ArrayVec<u8, N>, number: u64)
 }
 
 // A stretch and the profile beside it.
+#[tactic(auto, using(crate::proofs::Putting::putting), unfolding(crate::specs::Lines::interval_fields))]
 fn put_interval<const N: usize>(line: &mut ArrayVec<u8, N>, i: Interval)
     requires { array_vec_len line.old + interval_width ≤ N }
     ensures { Appends line.old line.new (interval_fields i) interval_width }
@@ -76,6 +81,7 @@ fn put_interval<const N: usize>(line: &mut ArrayVec<u8, N>, i: Interval)
 }
 
 // All that a plan holds.
+#[tactic(auto, using(crate::proofs::Putting::putting), unfolding(crate::specs::Lines::full_fields))]
 pub fn put_full_plan<const N: usize>(line: &mut ArrayVec<u8, N>, x: Block)
     requires { array_vec_len line.old + full_width ≤ N }
     ensures { Appends line.old line.new (full_fields x) full_width }

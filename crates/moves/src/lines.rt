@@ -104,6 +104,7 @@ impl<const N: usize> Form<N> for Full {
     ghost lines_fit = { refl };
 }
 
+#[tactic(auto, using(crate::proofs::Putting::putting), unfolding(crate::specs::Lines::answer_with))]
 fn put_answer<F: Form<N>, const N: usize>(line: &mut ArrayVec<u8, N>, x: Result<Block, Refusal>)
     requires { array_vec_len line.old + (F.LENGTH - frame_width) ≤ N }
     ensures { Appends line.old line.new (answer_with F.plan x) (F.LENGTH - frame_width) }
@@ -115,6 +116,7 @@ fn put_answer<F: Form<N>, const N: usize>(line: &mut ArrayVec<u8, N>, x: Result<
 }
 
 // Appends the line for the answer to record number n.
+#[tactic(auto, using(crate::proofs::Putting::putting), unfolding(crate::specs::Lines::line_with))]
 pub fn put_line<F: Form<N>, const N: usize>(
     line: &mut ArrayVec<u8, N>,
     n: u64,

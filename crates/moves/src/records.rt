@@ -26,6 +26,7 @@ fn is_malformed(b: &[u8]) -> bool
 }
 
 // The move of the record that the input's next bytes begin with. At the end of the input there is none.
+#[tactic(auto, using(crate::proofs::RecordLaws::reading), unfolding(crate::specs::Records::record_of))]
 pub fn read_record(b: &[u8]) -> Option<Result<Move, Refusal>>
     ensures { Reads b.now result }
 {

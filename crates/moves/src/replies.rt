@@ -14,6 +14,7 @@ use planner::plan;
 
 // Appends the line that answers record number n, whose bytes are the input's next, and says whether another record may
 // follow.
+#[tactic(auto, using(crate::proofs::Putting::putting))]
 pub fn put_reply<F: Form<N>, const N: usize>(
     n: u64,
     bytes: &[u8],
