@@ -19,7 +19,9 @@ pub fn constants() -> f64
     f64::EPSILON
 }
 
-// As Rust's `abs`: the sign is cleared, also that of -0.
+// As Rust's `abs`: the sign is cleared, also that of -0. This function and `is_finite` only say in the definitions' words
+// what std's say.
+#[tactic(auto, using(crate::proofs::FunctionLaws::sign_cleared))]
 pub fn abs(x: f64) -> f64
     ensures { result ≡ absᶠ x }
 {

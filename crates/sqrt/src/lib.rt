@@ -1,4 +1,5 @@
-// The square root of a double.
+// The square root of a double. Not std's `sqrt`, which is the processor's: document 01 asks for the root from the bits
+// (entry 77 of docs/DECISIONS.md).
 #![tactic(auto)]
 
 ghost use Rattle.std.specs.Prelude.{◌≡◌};
@@ -57,5 +58,5 @@ pub fn sqrt_by_digits(x: f64) -> f64
     if b == 0x8000_0000_0000_0000 {
         return x;
     }
-    0.0 / 0.0
+    f64::NAN
 }

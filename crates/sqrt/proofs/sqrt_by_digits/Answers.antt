@@ -54,8 +54,8 @@ negative x h n a i z =
               (pattern_value true r (2 ^ 63 + r) q refl) (pattern_units_pos r p)
         ])
 
-none : div binary64 (of_bits binary64 0) (of_bits binary64 0) ≡ nan
-unfolding div of_bits
+none : of_bits binary64 0x7ff8_0000_0000_0000 ≡ nan
+unfolding of_bits
 none = refl
 
 pub returns-then-is_nan : goal.returns-then-is_nan
