@@ -49,7 +49,8 @@ module _ (start : Start) (target : Target) (k : Constants) (m : Limits) where
   pub all_vel_reuses : let first = drop 4 (times_acc0_acc1_vel start target k m) in
       let third = drop 4 (times_acc0_vel start target k m (sqrt_of (t_acc1_radicand target k m))) in
       map (λ (x : Try). drop 4 x.t) (all_vel_tries start target k m) ≡ first ∷ first ∷ third ∷ third ∷ []
-  unfolding all_vel_tries all_vel_shared numbers always held only_if times_acc0_acc1_vel times_acc1_vel times_acc0_vel times_vel
+  unfolding all_vel_tries all_vel_shared numbers always held only_if
+      times_acc0_acc1_vel times_acc1_vel times_acc0_vel times_vel
   all_vel_reuses = refl
 
   -- solution 2, which has h1 / a_max taken off in phase 1, before solution 1, which has it added
@@ -69,7 +70,8 @@ module _ (start : Start) (target : Target) (k : Constants) (m : Limits) where
       ∷ (Acc0, 3 ∷ 4 ∷ 5 ∷ [])
       ∷ [])
       (acc0_two_step_tries start target k m)
-  unfolding acc0_two_step_tries always held only_if times_acc0_two_step times_acc0_removed_pf times_acc0_removed_a_max times_acc0_to_a_min
+  unfolding acc0_two_step_tries always held only_if
+      times_acc0_two_step times_acc0_removed_pf times_acc0_removed_a_max times_acc0_to_a_min
   acc0_two_step_order = (
     (refl, (refl, (refl, (refl, (refl, (refl, tt)))))),
     (

@@ -40,11 +40,10 @@ use Rattle.phase_times_two_step.specs.TimeNoneTwoStep.{times_none_single_step}
 use Rattle.position_third_step1.specs.CheckTree.{only_if}
 use Rattle.position_third_step1.specs.Slots.{always, held, numbers}
 use Rattle.position_third_step1.specs.TimeAllNoneAcc0Acc1.{roots_if, none_shared, acc0_shared, acc1_shared, root_slots}
-use Rattle.position_third_step1.specs.TimeAllNoneAcc0Acc1.{none_slots, acc0_slots, acc1_slots}
 use Rattle.position_third_step1.specs.TimeAllNoneAcc0Acc1.{none_tries, acc0_tries, acc1_tries, none_acc0_acc1_tries}
 use Rattle.position_third_step1.specs.TimeAllSingleStep.{single_step_slots, single_step_tries, acceptance}
-use Rattle.position_third_step1.specs.TimeAllVel.{all_vel_slots, all_vel_tries}
-use Rattle.position_third_step1.specs.TwoStep.{none_two_step_shared, none_two_step_slots, none_two_step_tries}
+use Rattle.position_third_step1.specs.TimeAllVel.{all_vel_tries}
+use Rattle.position_third_step1.specs.TwoStep.{none_two_step_shared, none_two_step_tries}
 use Rattle.block.specs.Blocks.{total, duration, no_interval, interval_from, interval_between, block_of, empty_block}
 use Rattle.block.specs.Blocks.{is_blocked, blocking_of}
 use Rattle.block.specs.Selection.{near, of_two, selected}
@@ -74,11 +73,11 @@ unfolding record_bytes record_of is_malformed record_move move_of doubles_at lin
     wrong_duration with_boundary with_phases empty_profile get_profile_answer get_profile get_profile_by has_zero_limit try_families
     first_search ends_at_rest rests_at_target points_up towards_target resting two_step first_of unless_found run bind in_turn
     answered only_if added stored fresh_list profile_of filled swapped_limits constants_of none_acc0_acc1_tries none_tries
-    none_slots none_shared roots_if h2_none polynom_none range_none held root_slots is_skipped times_none corrected_none
-    newton_none acc0_tries acc0_slots acc0_shared h0_acc0 h2_acc0 h3_acc0 polynom_acc0 range_acc0 shifted_quartic has_solution
-    times_acc0 corrected_acc0 newton_acc0 acc1_tries acc1_slots acc1_shared h0_acc1 h2_acc1 h3_acc1 polynom_acc1 range_acc1
-    times_acc1 corrected_acc1 none_two_step_tries none_two_step_slots none_two_step_shared numbers none_two_step_radicand scaled_root
-    times_none_two_step times_none_single_step always all_vel_tries all_vel_slots t3_acc0_acc1_vel times_acc0_acc1_vel single_step_tries
+    none_shared roots_if h2_none polynom_none range_none held root_slots is_skipped times_none corrected_none
+    newton_none acc0_tries acc0_shared h0_acc0 h2_acc0 h3_acc0 polynom_acc0 range_acc0 shifted_quartic has_solution
+    times_acc0 corrected_acc0 newton_acc0 acc1_tries acc1_shared h0_acc1 h2_acc1 h3_acc1 polynom_acc1 range_acc1
+    times_acc1 corrected_acc1 none_two_step_tries none_two_step_shared numbers none_two_step_radicand scaled_root
+    times_none_two_step times_none_single_step always all_vel_tries t3_acc0_acc1_vel times_acc0_acc1_vel single_step_tries
     single_step_slots changes_acceleration starts_accelerated starts_moving starts_at_target times_at_constant_speed acceptance
     single_step_answer after_passing selected of_two near total duration block_of empty_block no_interval
     interval_from interval_between blocking_of is_blocked checked passes accepted times_pass phases_pass sum_passes zero_passes

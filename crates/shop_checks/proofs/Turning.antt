@@ -16,10 +16,9 @@ use Rattle.candidates.specs.declared.Try.{Try}
 use Rattle.candidates.specs.declared.Candidates.{Candidates}
 use Rattle.position_third_step1.specs.CheckTree.{only_if, found, tries, try_of}
 use Rattle.position_third_step1.specs.Slots.{always, held, numbers}
-use Rattle.position_third_step1.specs.TimeAllVel.{all_vel_shared, all_vel_slots, all_vel_tries, time_all_vel}
+use Rattle.position_third_step1.specs.TimeAllVel.{all_vel_shared, all_vel_tries, time_all_vel}
 use Rattle.position_third_step1.specs.TimeAcc0Acc1.{acc0_acc1_shared, acc0_acc1_slots, acc0_acc1_tries, time_acc0_acc1}
 use Rattle.position_third_step1.specs.TimeAllNoneAcc0Acc1.{roots_if, none_shared, acc0_shared, acc1_shared, root_slots}
-use Rattle.position_third_step1.specs.TimeAllNoneAcc0Acc1.{none_slots, acc0_slots, acc1_slots}
 use Rattle.position_third_step1.specs.TimeAllNoneAcc0Acc1.{none_tries, acc0_tries, acc1_tries, none_acc0_acc1_tries}
 use Rattle.position_third_step1.specs.TimeAllNoneAcc0Acc1.{time_all_none_acc0_acc1}
 use Rattle.get_profile.specs.GetProfile.{moving, selected_from}
@@ -127,18 +126,18 @@ module _ (c : Candidates) (xs : List Try) where
 
   none_up : found (tries false c (none_tries start target k up ++ xs))
       ≡ found (tries false (added (added (added c first) second) third) xs)
-  unfolding none_tries none_slots
+  unfolding none_tries
   none_up = by_roots (none_with start target k up) c xs none_roots_up none_tries_up
 
   acc0_up : found (tries false c (acc0_tries start target k up ++ xs)) ≡ found (tries false c xs)
-  unfolding run in_turn answered only_if acc0_tries acc0_slots held root_slots is_skipped acc0_shared roots_if h0_acc0 h2_acc0
+  unfolding run in_turn answered only_if acc0_tries held root_slots is_skipped acc0_shared roots_if h0_acc0 h2_acc0
       polynom_acc0 range_acc0 shifted_quartic has_solution quartic_of roots_by_factors with_quadratic larger largest_zero
       factors_of resolvent_of cube_root quotient few_zeros inserted ascending_of sorted_from placed sqrt_of cbrt_of
       swapped_limits constants_of of_bits add sub mul div neg lt le eq absᶠ
   acc0_up = refl
 
 acc1_up : (c : Candidates) → found (tries false c (acc1_tries start target k up)) ≡ c
-unfolding run in_turn answered only_if acc1_tries acc1_slots held root_slots is_skipped times_acc1 corrected_acc1
+unfolding run in_turn answered only_if acc1_tries held root_slots is_skipped times_acc1 corrected_acc1
     first_correction_acc1 second_correction_acc1 third_correction_acc1 orig_acc1 deriv_acc1 acc1_shared roots_if h0_acc1 h2_acc1
     h3_acc1 polynom_acc1 range_acc1 has_solution quartic_of roots_by_factors with_quadratic larger largest_zero factors_of
     resolvent_of three_zeros clamped_ratio cube_root quotient few_zeros inserted ascending_of sorted_from placed sqrt_of cbrt_of
@@ -179,7 +178,7 @@ module _ (c : Candidates) (xs : List Try) where
 
   none_down : found (tries false c (none_tries start target k down ++ xs))
       ≡ found (tries false (added c fourth) xs)
-  unfolding none_tries none_slots
+  unfolding none_tries
   none_down = by_roots (none_with start target k down) c xs none_roots_down none_tries_down
 
   acc0_tries_down : found (tries false c (acc0_with start target k down
@@ -191,11 +190,11 @@ module _ (c : Candidates) (xs : List Try) where
   acc0_tries_down = refl
 
   acc0_down : found (tries false c (acc0_tries start target k down ++ xs)) ≡ found (tries false c xs)
-  unfolding acc0_tries acc0_slots
+  unfolding acc0_tries
   acc0_down = by_roots (acc0_with start target k down) c xs acc0_roots_down acc0_tries_down
 
 acc1_down : (c : Candidates) → found (tries false c (acc1_tries start target k down)) ≡ c
-unfolding run in_turn acc1_tries acc1_slots held root_slots is_skipped acc1_shared roots_if h0_acc1 h2_acc1 polynom_acc1 range_acc1
+unfolding run in_turn acc1_tries held root_slots is_skipped acc1_shared roots_if h0_acc1 h2_acc1 polynom_acc1 range_acc1
     has_solution swapped_limits constants_of of_bits add sub mul div neg lt le eq absᶠ
 acc1_down c = refl
 
@@ -219,13 +218,13 @@ module _ (c : Candidates) where
   acc0_acc1_down = refl
 
   vel_up : found (time_all_vel c start target k up) ≡ c
-  unfolding run in_turn answered only_if held always numbers all_vel_tries all_vel_slots all_vel_shared t_acc0_radicand
+  unfolding run in_turn answered only_if held always numbers all_vel_tries all_vel_shared t_acc0_radicand
       t_acc1_radicand t3_acc0_acc1_vel times_acc0_acc1_vel times_acc1_vel times_acc0_vel times_vel sqrt_of passes accepted times_pass
       swapped_limits constants_of of_bits add sub mul div neg lt le eq absᶠ
   vel_up = refl
 
   vel_down : found (time_all_vel c start target k down) ≡ c
-  unfolding run in_turn answered only_if held always numbers all_vel_tries all_vel_slots all_vel_shared t_acc0_radicand
+  unfolding run in_turn answered only_if held always numbers all_vel_tries all_vel_shared t_acc0_radicand
       t_acc1_radicand t3_acc0_acc1_vel times_acc0_acc1_vel times_acc1_vel times_acc0_vel times_vel sqrt_of passes accepted times_pass
       swapped_limits constants_of of_bits add sub mul div neg lt le eq absᶠ
   vel_down = refl

@@ -45,11 +45,10 @@ use Rattle.phase_times_two_step.specs.TimeNoneTwoStep.{times_none_single_step}
 use Rattle.position_third_step1.specs.CheckTree.{only_if}
 use Rattle.position_third_step1.specs.Slots.{always, held, numbers}
 use Rattle.position_third_step1.specs.TimeAllNoneAcc0Acc1.{roots_if, none_shared, acc0_shared, acc1_shared, root_slots}
-use Rattle.position_third_step1.specs.TimeAllNoneAcc0Acc1.{none_slots, acc0_slots, acc1_slots}
 use Rattle.position_third_step1.specs.TimeAllNoneAcc0Acc1.{none_tries, acc0_tries, acc1_tries, none_acc0_acc1_tries}
 use Rattle.position_third_step1.specs.TimeAllSingleStep.{single_step_slots, single_step_tries, acceptance}
-use Rattle.position_third_step1.specs.TimeAllVel.{all_vel_slots, all_vel_tries}
-use Rattle.position_third_step1.specs.TwoStep.{none_two_step_shared, none_two_step_slots, none_two_step_tries}
+use Rattle.position_third_step1.specs.TimeAllVel.{all_vel_tries}
+use Rattle.position_third_step1.specs.TwoStep.{none_two_step_shared, none_two_step_tries}
 use Rattle.block.specs.Blocks.{total, duration, no_interval, block_of}
 use Rattle.refusals.specs.Numbers.{number_of}
 use Rattle.block.specs.Selection.{selected}
@@ -63,12 +62,12 @@ move_2_accepted : number_of (answer_of move_2) ≡ 0
 unfolding answer_of finite_move finite_start finite_target finite_limits wrong_sign wrong_duration with_boundary empty_profile
     get_profile_answer get_profile get_profile_by has_zero_limit try_families first_search ends_at_rest rests_at_target points_up
     towards_target resting two_step first_of unless_found run bind in_turn answered only_if added stored fresh_list profile_of
-    filled swapped_limits constants_of none_acc0_acc1_tries none_tries none_slots none_shared roots_if h2_none polynom_none
-    range_none held root_slots is_skipped times_none corrected_none newton_none acc0_tries acc0_slots acc0_shared h0_acc0 h2_acc0
-    h3_acc0 polynom_acc0 range_acc0 shifted_quartic has_solution times_acc0 corrected_acc0 newton_acc0 acc1_tries acc1_slots
-    acc1_shared h0_acc1 h2_acc1 h3_acc1 polynom_acc1 range_acc1 times_acc1 corrected_acc1 none_two_step_tries none_two_step_slots
+    filled swapped_limits constants_of none_acc0_acc1_tries none_tries none_shared roots_if h2_none polynom_none
+    range_none held root_slots is_skipped times_none corrected_none newton_none acc0_tries acc0_shared h0_acc0 h2_acc0
+    h3_acc0 polynom_acc0 range_acc0 shifted_quartic has_solution times_acc0 corrected_acc0 newton_acc0 acc1_tries
+    acc1_shared h0_acc1 h2_acc1 h3_acc1 polynom_acc1 range_acc1 times_acc1 corrected_acc1 none_two_step_tries
     none_two_step_shared numbers none_two_step_radicand scaled_root times_none_two_step times_none_single_step always all_vel_tries
-    all_vel_slots t3_acc0_acc1_vel times_acc0_acc1_vel single_step_tries single_step_slots changes_acceleration starts_accelerated
+    t3_acc0_acc1_vel times_acc0_acc1_vel single_step_tries single_step_slots changes_acceleration starts_accelerated
     starts_moving starts_at_target times_at_constant_speed acceptance single_step_answer after_passing selected total duration
     block_of no_interval passes accepted times_pass phases_pass sum_passes zero_passes zeros_pass end_passes rows_pass
     sums jerk_if jerks row_after stored_if outer_row middle_row rows_of bounds_of direction_of quartic_of with_quadratic inserted
@@ -79,12 +78,12 @@ staying_breaks_it : Promise move_2 (answer_of move_1) → ⊥
 unfolding answer_of finite_move finite_start finite_target finite_limits wrong_sign wrong_duration with_boundary empty_profile
     get_profile_answer get_profile get_profile_by has_zero_limit try_families first_search ends_at_rest rests_at_target points_up
     towards_target resting two_step first_of unless_found run bind in_turn answered only_if added stored fresh_list profile_of
-    filled swapped_limits constants_of none_acc0_acc1_tries none_tries none_slots none_shared roots_if h2_none polynom_none
-    range_none held root_slots is_skipped times_none corrected_none newton_none acc0_tries acc0_slots acc0_shared h0_acc0 h2_acc0
-    h3_acc0 polynom_acc0 range_acc0 shifted_quartic has_solution times_acc0 corrected_acc0 newton_acc0 acc1_tries acc1_slots
-    acc1_shared h0_acc1 h2_acc1 h3_acc1 polynom_acc1 range_acc1 times_acc1 corrected_acc1 none_two_step_tries none_two_step_slots
+    filled swapped_limits constants_of none_acc0_acc1_tries none_tries none_shared roots_if h2_none polynom_none
+    range_none held root_slots is_skipped times_none corrected_none newton_none acc0_tries acc0_shared h0_acc0 h2_acc0
+    h3_acc0 polynom_acc0 range_acc0 shifted_quartic has_solution times_acc0 corrected_acc0 newton_acc0 acc1_tries
+    acc1_shared h0_acc1 h2_acc1 h3_acc1 polynom_acc1 range_acc1 times_acc1 corrected_acc1 none_two_step_tries
     none_two_step_shared numbers none_two_step_radicand scaled_root times_none_two_step times_none_single_step always all_vel_tries
-    all_vel_slots t3_acc0_acc1_vel times_acc0_acc1_vel single_step_tries single_step_slots changes_acceleration starts_accelerated
+    t3_acc0_acc1_vel times_acc0_acc1_vel single_step_tries single_step_slots changes_acceleration starts_accelerated
     starts_moving starts_at_target times_at_constant_speed acceptance single_step_answer after_passing selected total duration
     block_of no_interval passes accepted times_pass phases_pass sum_passes zero_passes zeros_pass end_passes rows_pass
     sums jerk_if jerks row_after stored_if outer_row middle_row rows_of bounds_of direction_of quartic_of with_quadratic inserted
@@ -96,12 +95,12 @@ leaving_breaks_it : Promise move_1 (answer_of move_2) → ⊥
 unfolding answer_of finite_move finite_start finite_target finite_limits wrong_sign wrong_duration with_boundary empty_profile
     get_profile_answer get_profile get_profile_by has_zero_limit try_families first_search ends_at_rest rests_at_target points_up
     towards_target resting two_step first_of unless_found run bind in_turn answered only_if added stored fresh_list profile_of
-    filled swapped_limits constants_of none_acc0_acc1_tries none_tries none_slots none_shared roots_if h2_none polynom_none
-    range_none held root_slots is_skipped times_none corrected_none newton_none acc0_tries acc0_slots acc0_shared h0_acc0 h2_acc0
-    h3_acc0 polynom_acc0 range_acc0 shifted_quartic has_solution times_acc0 corrected_acc0 newton_acc0 acc1_tries acc1_slots
-    acc1_shared h0_acc1 h2_acc1 h3_acc1 polynom_acc1 range_acc1 times_acc1 corrected_acc1 none_two_step_tries none_two_step_slots
+    filled swapped_limits constants_of none_acc0_acc1_tries none_tries none_shared roots_if h2_none polynom_none
+    range_none held root_slots is_skipped times_none corrected_none newton_none acc0_tries acc0_shared h0_acc0 h2_acc0
+    h3_acc0 polynom_acc0 range_acc0 shifted_quartic has_solution times_acc0 corrected_acc0 newton_acc0 acc1_tries
+    acc1_shared h0_acc1 h2_acc1 h3_acc1 polynom_acc1 range_acc1 times_acc1 corrected_acc1 none_two_step_tries
     none_two_step_shared numbers none_two_step_radicand scaled_root times_none_two_step times_none_single_step always all_vel_tries
-    all_vel_slots t3_acc0_acc1_vel times_acc0_acc1_vel single_step_tries single_step_slots changes_acceleration starts_accelerated
+    t3_acc0_acc1_vel times_acc0_acc1_vel single_step_tries single_step_slots changes_acceleration starts_accelerated
     starts_moving starts_at_target times_at_constant_speed acceptance single_step_answer after_passing selected total duration
     block_of no_interval passes accepted times_pass phases_pass sum_passes zero_passes zeros_pass end_passes rows_pass
     sums jerk_if jerks row_after stored_if outer_row middle_row rows_of bounds_of direction_of quartic_of with_quadratic inserted
