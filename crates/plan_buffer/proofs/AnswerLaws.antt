@@ -25,7 +25,7 @@ use Rattle.planner.specs.declared.Move.{Move}
 use Rattle.plan_buffer.specs.Layout.{numeral, profile_numbers, interval_numbers, plan_numbers, plan_length}
 use Rattle.plan_buffer.specs.Buffers.{wrong_length, plan_status, plan_written, axis_in, Planned, HoldsJoinable}
 use Rattle.plan_buffer.specs.Buffers.{inside_numbers, is_blocked_from, blocking_in, blocking_from, blocked_status}
-use Rattle.plan_buffer.specs.Buffers.{asked_number, Asked}
+use Rattle.plan_buffer.specs.Buffers.{error_number, asked_number, Asked}
 use Rattle.plan_buffer.specs.declared.error.BufferError.{BufferError}
 use Rattle.plan_buffer.specs.declared.error.BufferError.TheVariants.{Refused}
 use Rattle.plan_buffer.proofs.LayoutLaws.{plan_length_law}
@@ -61,17 +61,18 @@ module _ (mv buffer : List Float) where
         record { status_is = rw (e, f); after_is = rw (e, f); promise = λ z. never z; duration = λ z. never z }
 
     module _ (room : plan_length ≤ length buffer) (x : Move) (ex : x ≡ move_of mv) where
-      pub refused_move : (k : Refusal) → Err k ≡ answer_of x → Planned mv buffer (refusal_number k) buffer
+      pub refused_move : (k : Refusal) (error : BufferError) → error ≡ Refused k → Err k ≡ answer_of x
+          → Planned mv buffer (error_number error) buffer
       unfolding plan_status plan_written
-      refused_move k er =
+      refused_move k error ek er =
           let e = eq-eqb (length mv) move_length of_move in
           let f = le-ltb (length buffer) plan_length room in
           let n = ne_eqb (refusal_number k) 0 (λ z. refused k z) in
           record {
-            status_is = rw (e, f, ← ex, ← er);
+            status_is = rw (ek, e, f, ← ex, ← er);
             after_is = rw (e, f, ← ex, ← er, n);
-            promise = λ z. refused k z;
-            duration = λ z. refused k z;
+            promise = λ z. refused k (rw ek at z);
+            duration = λ z. refused k (rw ek at z);
           }
 
       pub planned_move : (after : List Float) (b : Block) → Ok b ≡ answer_of x → Promise x (Ok b) → FiniteDuration (Ok b)

@@ -18,7 +18,8 @@ pub fn moved(mv: &[f64]) -> Move
     Move::from(numbers)
 }
 
-// Whether t is inside a stretch of this kind and these ends.
+// Whether t is inside a stretch of this kind and these ends. The comparisons of `Stretch::contains`, of the numbers
+// themselves: a caller's buffer may hold any kind, also 1.5 or NaN, so a Stretch would first be made by the same cases.
 fn inside(kind: f64, left: f64, right: f64, t: f64) -> bool
     ensures { result ≡ inside_numbers kind left right t }
 {

@@ -11,9 +11,8 @@ returns-then-buffer-lt-PLAN_LENGTH-clause-planned c =
 
 pub returns-in-Err-clause-planned : goal.returns-in-Err-clause-planned
 returns-in-Err-clause-planned c =
-    rw c.from.ensures
-    (refused_move _ _ c.if-mv-ne-MOVE_LENGTH.false c.if-buffer-lt-PLAN_LENGTH.false _
-    c.moved.ensures _ c.in-Err.ensures.promised.0)
+    refused_move _ _ c.if-mv-ne-MOVE_LENGTH.false c.if-buffer-lt-PLAN_LENGTH.false _
+    c.moved.ensures _ _ c.from.ensures c.in-Err.ensures.promised.0
 
 pub returns-clause-planned : goal.returns-clause-planned
 returns-clause-planned c =
