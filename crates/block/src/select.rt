@@ -2,7 +2,8 @@
 // many profiles as count.
 
 ghost use Rattle.std.specs.Prelude.{◌≡◌, ◌<◌, ◌≤◌, ◌+◌, ◌-◌};
-ghost use Rattle.block.specs.Selection.{slot, fastest, of_two, of_three, with_two, of_five, moved_up, of_four, selected};
+ghost use Rattle.block.specs.Selection.{slot, fastest, of_two, of_three, with_two, of_five, moved_up, of_four};
+ghost use Rattle.block.specs.Selection.{selected};
 ghost use Rattle.block.specs.Steps.{removed};
 
 use crate::removal::{near, removal};

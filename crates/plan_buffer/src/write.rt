@@ -44,6 +44,7 @@ fn control_signs_number(control_signs: ControlSigns) -> u32
     }
 }
 
+// By match: `as` takes no enum whose cases have fields.
 fn kind_number(stretch: Stretch) -> u32
     ensures { result ≡ kind_number stretch }
 {
