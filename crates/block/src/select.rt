@@ -79,6 +79,7 @@ fn of_four(profiles: [Profile; 4]) -> Result<Block, Refusal>
 }
 
 // The shortest of five and the others, in the order in which they follow it.
+#[tactic(auto, using(crate::proofs::DirectionLaws::same_is), unfolding(crate::specs::Selection::with_two))]
 fn with_two(p_min: Profile, q1: Profile, q2: Profile, q3: Profile, q4: Profile) -> Block
     ensures { result ≡ with_two p_min q1 q2 q3 q4 }
 {
