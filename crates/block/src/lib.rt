@@ -36,7 +36,7 @@ pub struct Block {
     pub b: Interval,
 }
 
-// The sum of a profile's seven times.
+// The sum of a profile's seven times. Of the two no method is made: Profile is another crate's.
 #[tactic(auto, unfolding(crate::specs::Blocks::total))]
 pub fn total(p: Profile) -> f64
     ensures { result ≡ total p }

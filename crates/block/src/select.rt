@@ -2,7 +2,8 @@
 // many profiles as count.
 
 ghost use Rattle.std.specs.Prelude.{◌≡◌, ◌<◌, ◌≤◌, ◌+◌, ◌-◌};
-ghost use Rattle.block.specs.Selection.{slot, fastest, of_two, of_three, with_two, of_five, moved_up, of_four, selected};
+ghost use Rattle.block.specs.Selection.{slot, fastest, of_two, of_three, with_two, of_five, moved_up, of_four};
+ghost use Rattle.block.specs.Selection.{selected};
 ghost use Rattle.block.specs.Steps.{removed};
 
 use crate::removal::{near, removal};
@@ -77,6 +78,7 @@ fn of_four(profiles: [Profile; 4]) -> Result<Block, Refusal>
 }
 
 // The shortest of five and the others, in the order in which they follow it.
+#[tactic(auto, using(crate::proofs::DirectionLaws::same_is), unfolding(crate::specs::Selection::with_two))]
 fn with_two(p_min: Profile, q1: Profile, q2: Profile, q3: Profile, q4: Profile) -> Block
     ensures { result ≡ with_two p_min q1 q2 q3 q4 }
 {

@@ -6,7 +6,8 @@ ghost use Rattle.move_stream.specs.Batches.{Answered};
 use arrayvec::ArrayVec;
 use moves::{Form, RECORD_LENGTH, put_reply};
 
-// How many records are answered, and whether another may follow these.
+// How many records are answered, and whether another may follow these. Both at once: the count says which bytes are
+// done with, also where nothing may follow, so an Option of it would lose it.
 #[derive(Clone, Copy)]
 pub struct Batch {
     pub count: usize,

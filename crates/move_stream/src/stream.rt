@@ -1,5 +1,5 @@
-// Standard input's records answered on standard output. Each record is answered as soon as it is whole: a read takes what
-// is there, and the lines of all whole records are written before more is waited for.
+// Standard input's records answered on standard output. Each record is answered as soon as it is whole: a read takes
+// what is there, and the lines of all whole records are written before more is waited for.
 
 ghost use Rattle.std.specs.Prelude.{◌≡◌, ◌-◌, ◌≤◌, drop};
 ghost use Rattle.std.proofs.Math.Seq.{paste};
@@ -11,7 +11,8 @@ use std::io::Read;
 
 const BUFFER_LENGTH: usize = 65536;
 
-// The bytes of the input that aren't answered yet, at the front of a buffer.
+// The bytes of the input that aren't answered yet, at the front of a buffer. A length beside it, since `read` fills a
+// slice of bytes that are there: an ArrayVec has none beyond its length to lend.
 #[derive(Drop)]
 struct Unanswered {
     buffer: [u8; BUFFER_LENGTH],
@@ -76,8 +77,8 @@ impl Unanswered {
     }
 }
 
-// Reads, unless a whole record is there for whose line there was no room, and answers. Says which number the next record
-// has if another may follow.
+// Reads, unless a whole record is there for whose line there was no room, and answers. Says which number the next
+// record has if another may follow.
 fn turn<F: Form<BUFFER_LENGTH>, P: Print, R: Read>(
     rt: &P,
     reader: &mut R,

@@ -10,6 +10,7 @@ use crate::layout::{DURATION_AT, ENDS_LENGTH, PROFILE_AT, STRETCH_A_AT, STRETCH_
 use block::{Block, Interval, Stretch};
 use profile::{NAMES, Profile};
 
+// By match: `as` takes no enum whose cases have fields.
 fn kind_number(stretch: Stretch) -> u32
     ensures { result ≡ kind_number stretch }
 {

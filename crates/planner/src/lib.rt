@@ -79,12 +79,15 @@ fn wrong_duration(x: Move) -> bool
 }
 
 // The profile that get_profile is given.
+#[tactic(auto, unfolding(profile::specs::Boundary::with_boundary, profile::specs::Boundary::empty_profile))]
 fn input_of(x: Move) -> Profile
     ensures { result ≡ input_of x }
 {
-    let mut empty = Profile::empty();
-    empty.brake = x.brake;
-    empty.accel = x.accel;
+    let empty = Profile {
+        brake: x.brake,
+        accel: x.accel,
+        ..Profile::empty()
+    };
     empty.with_boundary(x.start, x.target)
 }
 

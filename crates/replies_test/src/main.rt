@@ -1,6 +1,6 @@
 // What is left of inputs in, how `plan_moves` answers the first record of each out, as the oracle's program `replies`
-// has it. A record is a byte, and as many bytes as it says. A line is `goes on` or `ends`, and the reply's own line if it
-// has one.
+// has it. A record is a byte, and as many bytes as it says. A line is `goes on` or `ends`, and the reply's own line if
+// it has one.
 #![tactic(auto)]
 
 ghost use Rattle.std.specs.Prelude.{◌≡◌, ◌+◌, ◌≤◌, ◌∷◌, length};
