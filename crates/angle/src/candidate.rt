@@ -1,6 +1,6 @@
 // Estimates of the cosine and the sine of a third of an angle in float arithmetic, from the angle's cosine t. Nothing
-// is claimed of their distance from the exact ones: exact comparison certifies them or not. (For a t spread evenly about
-// one sine in a hundred thousand is not certified, and fewer cosines.)
+// is claimed of their distance from the exact ones: exact comparison certifies them or not. (For a t spread evenly
+// about one sine in a hundred thousand is not certified, and fewer cosines.)
 ghost use Rattle.std.specs.Prelude.{◌≡◌};
 ghost use Rattle.angle.specs.Candidates.{newton_step, inverse_root, polynomial_of, excess_of};
 ghost use Rattle.angle.specs.Candidates.{correction_of, Estimated, cosine_candidate, near_root, large_sine};
@@ -114,8 +114,8 @@ fn small_sine(t: f64) -> f64
     s + f / (2.0 * s * (9.0 - 48.0 * q * (1.0 - q)) + f * y * (1.5 - 24.0 * q))
 }
 
-// The candidates take the numbers of an estimate one by one. As a struct these go through memory: a pair takes 168 ns in
-// place of 148, and 161 with `#[inline(always)]` (bench's `elementary_time`, old and new by turns).
+// The candidates take the numbers of an estimate one by one. As a struct these go through memory: a pair takes 168 ns
+// in place of 148, and 161 with `#[inline(always)]` (bench's `elementary_time`, old and new by turns).
 pub fn cosine_candidate(u: f64, d: f64) -> f64
     ensures { result ≡ cosine_candidate u d }
 {

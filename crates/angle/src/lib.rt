@@ -13,6 +13,7 @@ use algebraic::{Sign, Size};
 pub use pattern::Pattern;
 pub use third::{ThirdAngle, nearest, third_angle, third_angle_by_digits};
 
+// No Result: neither of the two is a failure.
 #[derive(Clone, Copy)]
 pub enum Argument {
     // The cosine and the sine themselves: t is not from -1 to 1, or is one of the two, or is near 0.

@@ -32,7 +32,7 @@ pub trait ThirdAngle {
         ensures { (result < 0x7ff0_0000_0000_0000) × (of_bits binary64 result ≡ of (double_of t)) };
 }
 
-// The nearest double: the candidate where comparison of whole numbers certifies it, and otherwise the one by its digits.
+// The nearest double: the candidate where comparison of whole numbers certifies it, and else the one by its digits.
 #[tactic(auto, using(bits::proofs::Patterns::not_nan_bits))]
 pub fn nearest<F: ThirdAngle>(t: Pattern, candidate: f64) -> f64
     ensures { result ≡ F.of (double_of t) }

@@ -1,2 +1,3 @@
-// The elementary functions on doubles as definitions, with their theorems: no code. The routines are crates of their own.
+// The elementary functions on doubles as definitions, with their theorems: no code. The routines are crates of their
+// own.
 #![tactic(auto)]

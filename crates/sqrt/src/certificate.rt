@@ -3,7 +3,8 @@ ghost use Rattle.std.specs.Prelude.{◌≡◌, ◌+◌, ◌*◌, ◌/◌, ◌%�
 ghost use Rattle.sqrt.specs.Verdicts.{verdict_of, Certified};
 
 // What is found of a candidate: it is the nearest number, or the next one up is, or the next one down, or none of
-// these. No Option of an Ordering: the four are what the definition `verdict_of` tells apart, and each has its own promise.
+// these. No Option of an Ordering: the four are what the definition `verdict_of` tells apart, and each has its own
+// promise.
 #[derive(Clone, Copy)]
 pub enum Verdict {
     Nearest,

@@ -3,7 +3,7 @@ use mathlib.Core.Path.{◌≡◌, refl, sym, ap, ◌∙◌}
 use Prim.Native.Nat.{ℕ, suc, ◌+◌, ◌-◌, ◌*◌, ◌%◌, ◌^◌, ◌≤◌, ◌<◌}
 use native.Mathlib.Nat.{pow-succ'}
 use native.Mathlib.Omega.{arith}
-use lib.Pow.{pow_mono, pow_pos}
+use lib.Pow.{pow_mono}
 use Rattle.elementary.specs.Nearest.{Real, floor_from}
 use mathlib.Core.Bool.{Bool}
 use Rattle.std.specs.Ordering.{is_ge}
@@ -34,19 +34,6 @@ tested real n s t r g b e f h k = cc
 done : (real : Real) (n : ℕ) → n ≡ floor_from real 0 n
 unfolding floor_from
 done real n = refl
-
-pub loop-d-init : goal.loop-d-init
-loop-d-init c = (omega arith, refl)
-
-pub overflow_add-t : goal.overflow_add-t
-overflow_add-t c =
-    let b = bit c.loop-d.d c.loop-d-test.true c.loop-d.auto.d in
-    omega (arith, b.shifted, b.twice)
-
-pub compared-requires : goal.compared-requires
-compared-requires c =
-    let b = bit c.loop-d.d c.loop-d-test.true c.loop-d.auto.d in
-    omega (arith, b.shifted, b.twice, pow_pos (c.loop-d.d - 1))
 
 pub loop-d-preserved-then-is_ge : goal.loop-d-preserved-then-is_ge
 loop-d-preserved-then-is_ge c =
