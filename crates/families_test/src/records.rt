@@ -95,7 +95,8 @@ pub struct Stages {
     pub numbers: Range<usize>,
 }
 
-// The stages that are the family of this number. With return_after_found two families are stages of a resting target.
+// The stages that are the family of this number. With `return_after_found`, which is the Rust's,
+// two families are stages of a resting target.
 #[tactic(auto, unfolding(crate::specs::Records::stages_of))]
 fn stages_of(family: u8, return_after_found: bool) -> Stages
     ensures { result ≡ stages_of family return_after_found }
