@@ -1,5 +1,5 @@
-// What the bytes of a record mean. They begin as a move's do, but `Move::from` is the planner's, which is built on what is
-// called here.
+// What the bytes of a record mean. They begin as a move's do, but `Move::from` is the planner's, which is built on what
+// is called here.
 
 ghost use Rattle.std.specs.Prelude.{◌≡◌, ◌<◌, ◌||◌, eqb, ltb, get_or};
 ghost use Rattle.profile_check.specs.Check.{passed};
@@ -95,7 +95,8 @@ pub struct Stages {
     pub numbers: Range<usize>,
 }
 
-// The stages that are the family of this number. With return_after_found two families are stages of a resting target.
+// The stages that are the family of this number. With `return_after_found`, which is the Rust's,
+// two families are stages of a resting target.
 #[tactic(auto, unfolding(crate::specs::Records::stages_of))]
 fn stages_of(family: u8, return_after_found: bool) -> Stages
     ensures { result ≡ stages_of family return_after_found }

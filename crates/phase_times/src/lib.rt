@@ -2,6 +2,7 @@
 // same operations in the same order. Nothing here knows which try comes next, and nothing takes a square root: a
 // formula is given the root, of a radicand that stands beside it. Here are time_all_vel, time_acc0_acc1 and
 // time_all_single_step, and the planner's constants.
+// Start, target, constants and limits are handed on one by one (entry 76 of docs/DECISIONS.md).
 #![tactic(auto)]
 
 pub mod constants;

@@ -3,6 +3,7 @@
 // Rust's own j_max_j_max of this family and the planner's, k.j_max_j_max, each stand where the Rust has them; they are
 // the same double. Whether a polynomial has a solution is asked of ACC1's as it stands, of ACC0's shifted by its
 // range's t_min.
+// Start, target, constants and limits are handed on one by one (entry 76 of docs/DECISIONS.md).
 #![tactic(auto)]
 
 pub mod correction_acc1;

@@ -1,4 +1,5 @@
 // Phase times of the two-step families of step 1, as `phase_times` has those of the others.
+// Start, target, constants and limits are handed on one by one (entry 76 of docs/DECISIONS.md).
 #![tactic(auto)]
 
 pub mod scaled_root;
