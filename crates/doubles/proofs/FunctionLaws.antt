@@ -23,6 +23,13 @@ nan_test (inf s) = ap not (same_sign s)
 nan_test (fin s m e) =
     rw (is_true (eqb (m * up e * down e) (m * up e * down e)) (eqb_refl (m * up e * down e)), same_sign s)
 
+-- and it is the one that there is
+pub is_nan_law : (x : Float) → T (is_nan x) → x ≡ nan
+unfolding is_nan
+is_nan_law nan h = refl
+is_nan_law (inf s) h = absurd h
+is_nan_law (fin s m e) h = absurd h
+
 -- what is true holds
 pub holds : (b : Bool) → b ≡ true → T b
 holds b e = subst (λ (b : Bool). T b) (sym e) tt
