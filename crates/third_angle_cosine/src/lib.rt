@@ -24,7 +24,7 @@ impl ThirdAngle for Cosine {
     ghost candidate_of = { λ _ e. cosine_candidate e.u e.d };
 
     fn candidate(t: f64, e: Estimate) -> f64 {
-        candidate::cosine_candidate(e.u, e.d)
+        candidate::cosine_candidate(e)
     }
 
     fn certified(t: Pattern, c: u64) -> bool {

@@ -18,12 +18,9 @@ pub fn third_angle_pair(t: f64) -> Pair
         Argument::Known(p) => p,
         Argument::Inside(i) => {
             let e = estimated(t);
-            let u = e.u;
-            let d = e.d;
-            let sin = sine_candidate(t, u, d, e.square, e.rest);
             Pair {
-                cos: nearest::<Cosine>(i, cosine_candidate(u, d)),
-                sin: nearest::<Sine>(i, sin),
+                cos: nearest::<Cosine>(i, cosine_candidate(e)),
+                sin: nearest::<Sine>(i, sine_candidate(t, e)),
             }
         }
     }

@@ -24,7 +24,7 @@ impl ThirdAngle for Sine {
     ghost candidate_of = { λ t e. sine_candidate t e.u e.d e.square e.rest };
 
     fn candidate(t: f64, e: Estimate) -> f64 {
-        candidate::sine_candidate(t, e.u, e.d, e.square, e.rest)
+        candidate::sine_candidate(t, e)
     }
 
     fn certified(t: Pattern, c: u64) -> bool {
