@@ -2,9 +2,10 @@
 use Rattle.std.specs.Prelude.{ℕ, zero, suc, ◌+◌, ◌*◌, ◌^◌, Bool, true, false}
 use Rattle.elementary.specs.Nearest.{Real}
 use Rattle.elementary.specs.Reals.{cbrt_real, third_angle_cosine_real, third_angle_sine_real}
-use Rattle.algebraic.specs.declared.Algebraic.{Algebraic}
 use Rattle.algebraic.specs.declared.number.Size.{Size}
-use Rattle.algebraic.specs.declared.Algebraic.TheVariants.{CubeRoot, Cosine, Sine}
+use Rattle.algebraic.specs.declared.number.CubeRoot.{CubeRoot}
+use Rattle.algebraic.specs.declared.number.Cosine.{Cosine}
+use Rattle.algebraic.specs.declared.number.Sine.{Sine}
 
 -- a sign bit
 abbrev pub negative : ℕ → Bool
@@ -15,7 +16,11 @@ negative (suc s) = true
 abbrev pub units : Size → ℕ
 units t = t.high * 2 ^ 64 + t.low
 
-abbrev pub real_of : Algebraic → Real
-real_of (CubeRoot r) = cbrt_real 1 (r.m * 2 ^ (107 + r.o)) 1
-real_of (Cosine r) = third_angle_cosine_real (2 ^ 54) (negative r.sign.bit) (units r.t) (2 ^ 128)
-real_of (Sine r) = third_angle_sine_real (2 ^ (54 + r.e)) (negative r.sign.bit) (units r.t) (2 ^ 128)
+abbrev pub cube_root_real : CubeRoot → Real
+cube_root_real r = cbrt_real 1 (r.m * 2 ^ (107 + r.o)) 1
+
+abbrev pub cosine_real : Cosine → Real
+cosine_real r = third_angle_cosine_real (2 ^ 54) (negative r.sign.bit) (units r.t) (2 ^ 128)
+
+abbrev pub sine_real : Sine → Real
+sine_real r = third_angle_sine_real (2 ^ (54 + r.binade.e)) (negative r.binade.sign.bit) (units r.t) (2 ^ 128)

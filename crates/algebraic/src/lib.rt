@@ -6,12 +6,5 @@ pub mod digits;
 mod number; // number.rt: the numbers that stand for a real, each in its range
 pub mod order;
 
-pub use number::{Cosine, CubeRoot, Sign, Sine, Size};
-
-// A real number between 2^53 and 2^54.
-#[derive(Clone, Copy)]
-pub enum Algebraic {
-    CubeRoot(CubeRoot),
-    Cosine(Cosine),
-    Sine(Sine),
-}
+pub use number::{Binade, Cosine, CubeRoot, Sign, Sine, Size};
+pub use order::Algebraic;

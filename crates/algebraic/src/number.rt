@@ -16,6 +16,17 @@ pub struct Size {
     pub low: u64,
 }
 
+// The sign bit of a t, and the e with the sine of the third from 2^-(e + 1) to 2^-e: 0 for a t below 0, and not 0 for a
+// t above 0.
+#[derive(Clone, Copy)]
+pub struct Binade {
+    pub sign: Sign,
+    pub e: u64,
+    ghost e_bound: { e < 28 },
+    ghost some: { 1 ≤ sign.bit + e },
+    ghost none: { sign.bit * e ≡ 0 },
+}
+
 // The cube root of m * 2^(107 + o).
 #[derive(Clone, Copy)]
 pub struct CubeRoot {
@@ -31,13 +42,9 @@ pub struct Cosine {
     pub t: Size,
 }
 
-// s * 2^(54 + e) for the sine s of that third, and t as before: e is 0 for a t below 0, and not 0 for a t above 0.
+// s * 2^(54 + e) for the sine s of that third, by its binade, and t as before.
 #[derive(Clone, Copy)]
 pub struct Sine {
-    pub sign: Sign,
+    pub binade: Binade,
     pub t: Size,
-    pub e: u64,
-    ghost e_bound: { e < 28 },
-    ghost some: { 1 ≤ sign.bit + e },
-    ghost none: { sign.bit * e ≡ 0 },
 }

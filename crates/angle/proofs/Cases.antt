@@ -7,7 +7,7 @@ use native.Mathlib.Omega.{arith}
 use mathlib.Core.Bool.{true, not}
 use lib.Dec.{T, lit≤}
 use lib.Pow.{pow_pos}
-use lib.Ieee.{Float, nan, inf, fin, binary64, of_bits, to_bits, fits, is_nan, div}
+use lib.Ieee.{Float, nan, inf, fin, binary64, of_bits, to_bits, fits, is_nan}
 use lib.Ieee.Bits.{of_bits-to_bits, to_bits-lt}
 use Rattle.bits.specs.Fields.{pattern_units}
 use Rattle.bits.proofs.Patterns.{pattern_most, units_lt, units_above}
@@ -28,10 +28,6 @@ unfolding third_angle_cosine_of third_angle_sine_of is_nan
 not_a_number nan h = (refl, refl)
 not_a_number (inf s) h = cc
 not_a_number (fin s m e) h = cc
-
-none : div binary64 (of_bits binary64 0) (of_bits binary64 0) ≡ nan
-unfolding div of_bits
-none = refl
 
 -- ---- by the sign bit and the pattern of the magnitude
 
@@ -84,12 +80,10 @@ module _ (t : Float) (held : T (fits binary64 t)) where
   from_pattern c s h = subst (λ (y : Float). Both y c s) (sym by_sign) h
 
   pub outside : T (not (is_nan t)) → 0x3ff0_0000_0000_0000 < to_bits binary64 t % 2 ^ 63
-      → Both t (div binary64 (of_bits binary64 0) (of_bits binary64 0))
-      (div binary64 (of_bits binary64 0) (of_bits binary64 0))
+      → Both t nan nan
   outside n h =
-      subst (λ (y : Float). Both t y y) (sym none)
-      (from_pattern nan nan
-      (outside_pattern (to_bits binary64 t / 2 ^ 63) (to_bits binary64 t % 2 ^ 63) sign_lt h (pattern_most t held n)))
+      from_pattern nan nan
+      (outside_pattern (to_bits binary64 t / 2 ^ 63) (to_bits binary64 t % 2 ^ 63) sign_lt h (pattern_most t held n))
 
   pub near : to_bits binary64 t % 2 ^ 63 < 0x3c80_0000_0000_0000
       → Both t (of_bits binary64 0x3feb_b67a_e858_4caa) (of_bits binary64 0x3fe0_0000_0000_0000)

@@ -12,7 +12,7 @@ abbrev pub double_of : Pattern → Float
 double_of t = of_bits binary64 (t.sign.bit * 2 ^ 63 + t.m)
 
 abbrev pub Taken : Float → Argument → Type 0
-Taken t (Known cos sin) = (cos ≡ third_angle_cosine_of t) × (sin ≡ third_angle_sine_of t)
+Taken t (Known p) = (p.cos ≡ third_angle_cosine_of t) × (p.sin ≡ third_angle_sine_of t)
 Taken t (Inside i) = t ≡ double_of i
 
 -- the magnitude of a pattern m from 2 ^ -75 up to 1, in units of 2 ^ -128

@@ -114,31 +114,29 @@ fn small_sine(t: f64) -> f64
     s + f / (2.0 * s * (9.0 - 48.0 * q * (1.0 - q)) + f * y * (1.5 - 24.0 * q))
 }
 
-// The candidates take the numbers of an estimate one by one. As a struct these go through memory: a pair takes 168 ns
-// in place of 148, and 161 with `#[inline(always)]` (bench's `elementary_time`, old and new by turns).
-pub fn cosine_candidate(u: f64, d: f64) -> f64
-    ensures { result ≡ cosine_candidate u d }
+pub fn cosine_candidate(e: Estimate) -> f64
+    ensures { result ≡ cosine_candidate e.u e.d }
 {
-    0.5 + 0.5 * u + 0.5 * d
+    0.5 + 0.5 * e.u + 0.5 * e.d
 }
 
 // √(3 - 2v - v²) / 2. The rounding error of the main term is part of the small one.
 #[tactic(auto, unfolding(crate::specs::Candidates::large_sine))]
-fn large_sine(u: f64, d: f64, square: f64, rest: f64) -> f64
-    ensures { result ≡ large_sine u d square rest }
+fn large_sine(e: Estimate) -> f64
+    ensures { result ≡ large_sine e.u e.d e.square e.rest }
 {
-    let b = 3.0 - 2.0 * u;
-    let a = b - square;
-    let e = b - a - square - rest - d * (2.0 + 2.0 * u + d);
-    0.5 * near_root(a, e, inverse_root(a))
+    let b = 3.0 - 2.0 * e.u;
+    let a = b - e.square;
+    let small = b - a - e.square - e.rest - e.d * (2.0 + 2.0 * e.u + e.d);
+    0.5 * near_root(a, small, inverse_root(a))
 }
 
 #[tactic(auto, unfolding(crate::specs::Candidates::sine_candidate))]
-pub fn sine_candidate(t: f64, u: f64, d: f64, square: f64, rest: f64) -> f64
-    ensures { result ≡ sine_candidate t u d square rest }
+pub fn sine_candidate(t: f64, e: Estimate) -> f64
+    ensures { result ≡ sine_candidate t e.u e.d e.square e.rest }
 {
     if t > 0.9921875 {
         return small_sine(t);
     }
-    large_sine(u, d, square, rest)
+    large_sine(e)
 }

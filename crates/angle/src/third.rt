@@ -7,15 +7,16 @@ ghost use Rattle.angle.specs.Arguments.{double_of};
 ghost use Rattle.angle.specs.declared.candidate.Estimate.{Estimate};
 
 use crate::candidate::{Estimate, estimated};
-use crate::{Argument, Pattern, classify};
+use crate::{Argument, Pair, Pattern, classify};
 
 pub trait ThirdAngle {
     // The function of t.
     ghost of: { Float → Float };
 
     // Its value, of the two that are known.
-    fn known(cos: f64, sin: f64) -> f64
-        ensures { (t : Float) → cos ≡ third_angle_cosine_of t → sin ≡ third_angle_sine_of t → result ≡ of t };
+    fn known(p: Pair) -> f64
+        ensures { (t : Float) → p.cos ≡ third_angle_cosine_of t → p.sin ≡ third_angle_sine_of t
+            → result ≡ of t };
 
     // Its candidate, of whose distance nothing is claimed.
     ghost candidate_of: { Float → Estimate → Float };
@@ -50,7 +51,7 @@ pub fn third_angle<F: ThirdAngle>(t: f64) -> f64
     ensures { result ≡ F.of t }
 {
     match classify(t) {
-        Argument::Known(cos, sin) => F::known(cos, sin),
+        Argument::Known(p) => F::known(p),
         Argument::Inside(i) => nearest::<F>(i, F::candidate(t, estimated(t))),
     }
 }
@@ -61,7 +62,7 @@ pub fn third_angle_by_digits<F: ThirdAngle>(t: f64) -> f64
     ensures { result ≡ F.of t }
 {
     match classify(t) {
-        Argument::Known(cos, sin) => F::known(cos, sin),
+        Argument::Known(p) => F::known(p),
         Argument::Inside(i) => f64::from_bits(F::pattern(i)),
     }
 }

@@ -4,7 +4,8 @@ ghost use Rattle.std.specs.Float.{binary64};
 ghost use Rattle.std.specs.Float.Ieee.{of_bits};
 ghost use Rattle.elementary.specs.Functions.{cbrt_of};
 
-use algebraic::{Algebraic, CubeRoot};
+use algebraic::CubeRoot;
+use algebraic::digits::rounded_by_digits;
 
 // The pattern of the cube root of the finite double above 0 whose pattern is b. The root has a third of the
 // exponent, and its significand is the root of the significand with the rest of the exponent.
@@ -18,6 +19,6 @@ pub fn root_pattern(b: u64) -> u64
         m: parts.significand,
         o: exponent % 3,
     };
-    let r = algebraic::digits::rounded_by_digits(Algebraic::CubeRoot(root));
+    let r = rounded_by_digits(root);
     ((exponent / 3) << 52) + r
 }

@@ -4,8 +4,8 @@
 ghost use Rattle.std.specs.Prelude.{◌≡◌};
 ghost use Rattle.elementary.specs.Functions.{cbrt_of};
 
-// A pattern is a plain number: the estimate, the certificate and the digits ask for three ranges of it (below 2^63, a
-// normal double's, a finite one's above 0). Three types would say the same at more places.
+// A pattern is a plain number, and its range a clause, as in sqrt (there is why): below 2^63 in two functions here, a
+// normal double's in one, a finite one's above 0 in one. `cbrt` gives one number into two of the ranges.
 mod candidate;
 mod certificate;
 mod digits;

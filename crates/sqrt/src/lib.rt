@@ -5,8 +5,10 @@
 ghost use Rattle.std.specs.Prelude.{◌≡◌};
 ghost use Rattle.elementary.specs.Functions.{sqrt_of};
 
-// A pattern is a plain number: the three functions that take one ask for three ranges of it (below 2^63, a normal
-// double's, a finite one's above 0), each in one contract. Three types would say the same at more places.
+// A pattern is a plain number, as `to_bits` gives it, and its range a clause: below 2^63 in four functions (one in
+// doubles, one here, two in cbrt), a finite double's above 0 in three (bits, cbrt, here), a normal one's in two (cbrt,
+// here). Types would be no plainer: `sqrt` gives one number into two of the ranges, so it would make two values of it,
+// and each is opened again to be shifted and masked. What comes back as a pattern goes into `from_bits` at once.
 mod candidate;
 mod certificate;
 mod digits;

@@ -5,7 +5,8 @@ ghost use Rattle.std.specs.Float.Ieee.{of_bits};
 ghost use Rattle.angle.specs.Arguments.{double_of};
 ghost use Rattle.elementary.specs.Functions.{third_angle_cosine_of};
 
-use algebraic::{Algebraic, Cosine};
+use algebraic::Cosine;
+use algebraic::digits::rounded_by_digits;
 use angle::Pattern;
 
 // The pattern of the cosine: it is from 1/2 up to 1.
@@ -16,5 +17,5 @@ pub fn cosine_pattern(t: Pattern) -> u64
         sign: t.sign,
         t: t.size(),
     };
-    0x3fd0_0000_0000_0000 + algebraic::digits::rounded_by_digits(Algebraic::Cosine(cosine))
+    0x3fd0_0000_0000_0000 + rounded_by_digits(cosine)
 }

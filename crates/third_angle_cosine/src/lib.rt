@@ -6,7 +6,7 @@ ghost use Rattle.angle.specs.Candidates.{cosine_candidate};
 ghost use Rattle.elementary.specs.Functions.{third_angle_cosine_of};
 
 use angle::candidate::{self, Estimate};
-use angle::{Pattern, ThirdAngle, third_angle, third_angle_by_digits};
+use angle::{Pair, Pattern, ThirdAngle, third_angle, third_angle_by_digits};
 
 pub mod certificate;
 pub mod digits;
@@ -17,14 +17,14 @@ pub struct Cosine;
 impl ThirdAngle for Cosine {
     ghost of = { third_angle_cosine_of };
 
-    fn known(cos: f64, sin: f64) -> f64 {
-        cos
+    fn known(p: Pair) -> f64 {
+        p.cos
     }
 
     ghost candidate_of = { λ _ e. cosine_candidate e.u e.d };
 
     fn candidate(t: f64, e: Estimate) -> f64 {
-        candidate::cosine_candidate(e.u, e.d)
+        candidate::cosine_candidate(e)
     }
 
     fn certified(t: Pattern, c: u64) -> bool {

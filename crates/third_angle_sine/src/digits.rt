@@ -9,26 +9,23 @@ ghost use Rattle.elementary.specs.Functions.{third_angle_sine_of};
 ghost use Rattle.elementary.specs.Binade.{InBinade};
 
 use algebraic::digits::rounded_by_digits;
-use algebraic::{Algebraic, Sign, Sine, Size};
+use algebraic::{Algebraic, Binade, Sign, Sine, Size};
 use angle::Pattern;
 
-// The e with the sine from 2^-(e + 1) to 2^-e, for a t above 0, of this size.
-fn binade(t: Size) -> u64
+// The binade of the sine for a t above 0, of this size.
+fn rising_binade(t: Size) -> Binade
     requires { (0 < units t) × (units t ≤ 2 ^ 128 - 2 ^ 75) }
-    ensures bound { (0 < result) × (result < 28) }
-    ensures in_binade { InBinade (third_angle_sine_real (2 ^ (54 + result)) false (units t) (2 ^ 128)) }
+    ensures rising { result.sign.bit ≡ 0 }
+    ensures in_binade { InBinade (third_angle_sine_real (2 ^ (54 + result.e)) false (units t) (2 ^ 128)) }
 {
+    let sign = Sign { bit: 0 };
     for e in 1..27u64 {
-        let sine = Sine {
-            sign: Sign { bit: 0 },
-            t,
-            e,
-        };
-        if algebraic::order::compared(Algebraic::Sine(sine), 0x20_0000_0000_0000).is_ge() {
-            return e;
+        let binade = Binade { sign, e };
+        if (Sine { binade, t }).compared(0x20_0000_0000_0000).is_ge() {
+            return binade;
         }
     }
-    27
+    Binade { sign, e: 27 }
 }
 
 // The pattern of the sine: below 1/2 for a t above 0, and from 1/2 to √3 / 2 for a t below 0.
@@ -38,8 +35,9 @@ pub fn sine_pattern(t: Pattern) -> u64
     let sign = t.sign;
     let t = t.size();
     if sign.bit == 0 {
-        let e = binade(t);
-        return ((1021 - e) << 52) + rounded_by_digits(Algebraic::Sine(Sine { sign, t, e }));
+        let binade = rising_binade(t);
+        return ((1021 - binade.e) << 52) + rounded_by_digits(Sine { binade, t });
     }
-    0x3fd0_0000_0000_0000 + rounded_by_digits(Algebraic::Sine(Sine { sign, t, e: 0 }))
+    let binade = Binade { sign, e: 0 };
+    0x3fd0_0000_0000_0000 + rounded_by_digits(Sine { binade, t })
 }

@@ -6,7 +6,7 @@ ghost use Rattle.angle.specs.Candidates.{sine_candidate};
 ghost use Rattle.elementary.specs.Functions.{third_angle_sine_of};
 
 use angle::candidate::{self, Estimate};
-use angle::{Pattern, ThirdAngle, third_angle, third_angle_by_digits};
+use angle::{Pair, Pattern, ThirdAngle, third_angle, third_angle_by_digits};
 
 pub mod certificate;
 pub mod digits;
@@ -17,14 +17,14 @@ pub struct Sine;
 impl ThirdAngle for Sine {
     ghost of = { third_angle_sine_of };
 
-    fn known(cos: f64, sin: f64) -> f64 {
-        sin
+    fn known(p: Pair) -> f64 {
+        p.sin
     }
 
     ghost candidate_of = { λ t e. sine_candidate t e.u e.d e.square e.rest };
 
     fn candidate(t: f64, e: Estimate) -> f64 {
-        candidate::sine_candidate(t, e.u, e.d, e.square, e.rest)
+        candidate::sine_candidate(t, e)
     }
 
     fn certified(t: Pattern, c: u64) -> bool {

@@ -9,7 +9,6 @@ use mathlib.Core.Bool.{Bool}
 use Rattle.std.specs.Ordering.{is_ge}
 use Rattle.std.specs.declared.cmp.Ordering.{Ordering}
 use Rattle.words.specs.Limbs.{ordering_of}
-use Rattle.algebraic.specs.Reals.{real_of}
 use Rattle.elementary.proofs.Binade.{digit_one, digit_zero}
 use Rattle.algebraic.proofs.Orderings.{ge_true, ge_false}
 use Rattle.algebraic.proofs.digits.floor_by_digits.Goals as goal
@@ -36,31 +35,31 @@ unfolding floor_from
 done real n = refl
 
 pub loop-d-preserved-then-is_ge : goal.loop-d-preserved-then-is_ge
-loop-d-preserved-then-is_ge c =
+loop-d-preserved-then-is_ge g c =
     let l = c.loop-d in
     let b = bit c.loop-d.d c.loop-d-test.true c.loop-d.auto.d in
     rw b.shifted (
       omega (arith, b.twice),
-      sym (digit_one (real_of c.args.c) (l.d - 1) l.n
-          (ge_true (real_of c.args.c (l.n + 2 ^ (l.d - 1)))
-          (tested (real_of c.args.c) l.n _ _ _ _ _ c.compared.ensures b.shifted c.is_ge.ensures c.if-is_ge.true))) ∙ ap (λ (x : ℕ). floor_from (real_of c.args.c) x l.n) (sym b.is) ∙ l.invariant.1,
+      sym (digit_one (g.R.Algebraic.real c.args.c) (l.d - 1) l.n
+          (ge_true (g.R.Algebraic.real c.args.c (l.n + 2 ^ (l.d - 1)))
+          (tested (g.R.Algebraic.real c.args.c) l.n _ _ _ _ _ c.compared.ensures b.shifted c.is_ge.ensures c.if-is_ge.true))) ∙ ap (λ (x : ℕ). floor_from (g.R.Algebraic.real c.args.c) x l.n) (sym b.is) ∙ l.invariant.1,
     )
 
 pub loop-d-preserved : goal.loop-d-preserved
-loop-d-preserved c =
+loop-d-preserved g c =
     let l = c.loop-d in
     let b = bit c.loop-d.d c.loop-d-test.true c.loop-d.auto.d in (
       omega (arith, b.twice),
-      sym (digit_zero (real_of c.args.c) (l.d - 1) l.n
-          (ge_false (real_of c.args.c (l.n + 2 ^ (l.d - 1)))
-          (tested (real_of c.args.c) l.n _ _ _ _ _ c.compared.ensures b.shifted c.is_ge.ensures c.if-is_ge.false))) ∙ ap (λ (x : ℕ). floor_from (real_of c.args.c) x l.n) (sym b.is) ∙ l.invariant.1,
+      sym (digit_zero (g.R.Algebraic.real c.args.c) (l.d - 1) l.n
+          (ge_false (g.R.Algebraic.real c.args.c (l.n + 2 ^ (l.d - 1)))
+          (tested (g.R.Algebraic.real c.args.c) l.n _ _ _ _ _ c.compared.ensures b.shifted c.is_ge.ensures c.if-is_ge.false))) ∙ ap (λ (x : ℕ). floor_from (g.R.Algebraic.real c.args.c) x l.n) (sym b.is) ∙ l.invariant.1,
     )
 
 pub returns : goal.returns
-returns c =
+returns g c =
     let l = c.loop-d in
     let z : l.d ≡ 0 = omega arith in (
       omega (arith, ap (λ (x : ℕ). 2 ^ x) z),
-      done (real_of c.args.c) l.n
-          ∙ ap (λ (x : ℕ). floor_from (real_of c.args.c) x l.n) (sym z) ∙ l.invariant.1,
+      done (g.R.Algebraic.real c.args.c) l.n
+          ∙ ap (λ (x : ℕ). floor_from (g.R.Algebraic.real c.args.c) x l.n) (sym z) ∙ l.invariant.1,
     )

@@ -2,9 +2,8 @@
 use mathlib.Core.Path.{◌≡◌}
 use Prim.Native.Nat.{◌+◌, ◌^◌, ◌≤◌}
 use Rattle.elementary.specs.Nearest.{floor_from}
-use Rattle.algebraic.specs.Reals.{real_of}
 use Rattle.algebraic.proofs.digits.floor_by_digits.Given as goal
 
 abbrev pub invariant-loop-d : goal.invariant-loop-d
-invariant-loop-d l =
-    (l.n + 2 ^ l.d ≤ 2 ^ 54) × (floor_from (real_of l.c) l.d l.n ≡ floor_from (real_of l.c) 53 (2 ^ 53))
+invariant-loop-d g l =
+    (l.n + 2 ^ l.d ≤ 2 ^ 54) × (floor_from (g.R.Algebraic.real l.c) l.d l.n ≡ floor_from (g.R.Algebraic.real l.c) 53 (2 ^ 53))

@@ -3,29 +3,28 @@ use mathlib.Core.Path.{sym, ap, ◌∙◌}
 use Prim.Native.Nat.{◌+◌, ◌*◌, ◌/◌}
 use native.Mathlib.Numerals.{add-one}
 use lib.Ieee.{nearest}
-use Rattle.algebraic.specs.Reals.{real_of}
 use Rattle.elementary.proofs.Binade.{rounds_by_floor}
 use Rattle.algebraic.proofs.Orderings.{is_less, is_equal, is_greater}
 use Rattle.algebraic.proofs.digits.rounded_by_digits.Goals as goal
 
 pub returns-in-Less : goal.returns-in-Less
-returns-in-Less c =
-    rounds_by_floor (real_of c.args.c) c.requires c.floor_by_digits-q.result
+returns-in-Less g c =
+    rounds_by_floor (g.R.Algebraic.real c.args.c) c.requires c.floor_by_digits-q.result
     c.floor_by_digits-q.ensures.1 _
     (sym (ap (nearest (c.floor_by_digits-q.result / 2))
-    (is_less (real_of c.args.c (2 * (c.floor_by_digits-q.result / 2) + 1)) (sym c.in-Less.is ∙ c.compared.ensures))))
+    (is_less (g.R.Algebraic.real c.args.c (2 * (c.floor_by_digits-q.result / 2) + 1)) (sym c.in-Less.is ∙ c.compared.ensures))))
 
 pub returns-in-Equal : goal.returns-in-Equal
-returns-in-Equal c =
-    rounds_by_floor (real_of c.args.c) c.requires c.floor_by_digits-q.result
+returns-in-Equal g c =
+    rounds_by_floor (g.R.Algebraic.real c.args.c) c.requires c.floor_by_digits-q.result
     c.floor_by_digits-q.ensures.1 _
     (sym (ap (nearest (c.floor_by_digits-q.result / 2))
-    (is_equal (real_of c.args.c (2 * (c.floor_by_digits-q.result / 2) + 1)) (sym c.in-Equal.is ∙ c.compared.ensures))))
+    (is_equal (g.R.Algebraic.real c.args.c (2 * (c.floor_by_digits-q.result / 2) + 1)) (sym c.in-Equal.is ∙ c.compared.ensures))))
 
 pub returns-in-Greater : goal.returns-in-Greater
-returns-in-Greater c =
-    rounds_by_floor (real_of c.args.c) c.requires c.floor_by_digits-q.result
+returns-in-Greater g c =
+    rounds_by_floor (g.R.Algebraic.real c.args.c) c.requires c.floor_by_digits-q.result
     c.floor_by_digits-q.ensures.1 _
     (add-one (c.floor_by_digits-q.result / 2)
     ∙ sym (ap (nearest (c.floor_by_digits-q.result / 2))
-    (is_greater (real_of c.args.c (2 * (c.floor_by_digits-q.result / 2) + 1)) (sym c.in-Greater.is ∙ c.compared.ensures))))
+    (is_greater (g.R.Algebraic.real c.args.c (2 * (c.floor_by_digits-q.result / 2) + 1)) (sym c.in-Greater.is ∙ c.compared.ensures))))

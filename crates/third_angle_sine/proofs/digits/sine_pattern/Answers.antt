@@ -1,5 +1,5 @@
 -- `third_angle_sine::digits::sine_pattern` meets its contract. Assumes nothing.
-use mathlib.Core.Path.{◌≡◌, sym, subst}
+use mathlib.Core.Path.{◌≡◌, sym, subst, ◌∙◌}
 use Prim.Native.Nat.{ℕ, ◌+◌, ◌-◌, ◌*◌, ◌^◌, ◌%◌, ◌≤◌, ◌<◌}
 use native.Mathlib.Omega.{arith}
 use lib.Ieee.{binary64, of_bits}
@@ -39,8 +39,12 @@ is_zero s u e z h = subst (λ (x : ℕ). InBinade (scaled x u e)) (sym z) h
 is_one : (s u : ℕ) → s < 2 → (s ≡ 0 → ⊥) → InBinade (scaled s u 0)
 is_one s u l n = subst (λ (x : ℕ). InBinade (scaled x u 0)) (let z : 1 ≡ s = omega arith in z) (above_half u)
 
-pub binade-e-requires : goal.binade-e-requires
-binade-e-requires c = (
+-- the sign bit of the binade is that of t
+same_sign : (s x u e r : ℕ) → s ≡ 0 → x ≡ 0 → RoundsTo (scaled x u e) r → RoundsTo (scaled s u e) r
+same_sign s x u e r a b h = subst (λ (y : ℕ). RoundsTo (scaled y u e) r) (b ∙ sym a) h
+
+pub rising_binade-binade-requires : goal.rising_binade-binade-requires
+rising_binade-binade-requires c = (
   subst (λ (u : ℕ). 0 < u) (sym c.size-t.ensures)
       (size_pos c.args.t.m c.args.t.least c.args.t.below),
   subst (λ (u : ℕ). u ≤ 2 ^ 128 - 2 ^ 75) (sym c.size-t.ensures)
@@ -48,22 +52,26 @@ binade-e-requires c = (
 )
 
 pub rounded_by_digits-requires : goal.rounded_by_digits-requires
-rounded_by_digits-requires c = is_zero c.args.t.sign.bit _ c.binade-e.result c.if-sign-eq0.true c.binade-e.ensures.in_binade
+rounded_by_digits-requires c =
+    is_zero c.rising_binade-binade.result.sign.bit _ c.rising_binade-binade.result.e
+    c.rising_binade-binade.ensures.rising c.rising_binade-binade.ensures.in_binade
 
 pub overflow_add-result : goal.overflow_add-result
 overflow_add-result c =
     omega (
       arith,
-      (shifted c.args.t.sign.bit c.args.t.m c.binade-e.result _ c.rounded_by_digits.result
-          c.args.t.sign.is_bit c.args.t.least c.args.t.below c.binade-e.ensures.bound.1
-          c.size-t.ensures c.rounded_by_digits.ensures).0,
+      (shifted c.args.t.sign.bit c.args.t.m c.rising_binade-binade.result.e _ c.rounded_by_digits.result
+          c.args.t.sign.is_bit c.args.t.least c.args.t.below c.rising_binade-binade.result.e_bound
+          c.size-t.ensures (same_sign _ _ _ _ _ c.if-sign-eq0.true
+          c.rising_binade-binade.ensures.rising c.rounded_by_digits.ensures)).0,
     )
 
 pub returns-then-sign-eq0 : goal.returns-then-sign-eq0
 returns-then-sign-eq0 c =
-    shifted c.args.t.sign.bit c.args.t.m c.binade-e.result _ c.rounded_by_digits.result
-    c.args.t.sign.is_bit c.args.t.least c.args.t.below c.binade-e.ensures.bound.1
-    c.size-t.ensures c.rounded_by_digits.ensures
+    shifted c.args.t.sign.bit c.args.t.m c.rising_binade-binade.result.e _ c.rounded_by_digits.result
+    c.args.t.sign.is_bit c.args.t.least c.args.t.below c.rising_binade-binade.result.e_bound
+    c.size-t.ensures (same_sign _ _ _ _ _ c.if-sign-eq0.true
+    c.rising_binade-binade.ensures.rising c.rounded_by_digits.ensures)
 
 pub rounded_by_digits-requires-2 : goal.rounded_by_digits-requires-2
 rounded_by_digits-requires-2 c = is_one c.args.t.sign.bit _ c.args.t.sign.is_bit c.if-sign-eq0.false

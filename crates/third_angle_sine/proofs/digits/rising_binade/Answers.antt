@@ -1,4 +1,4 @@
--- `third_angle_sine::digits::binade` meets its contract. Assumes nothing.
+-- `third_angle_sine::digits::rising_binade` meets its contract. Assumes nothing.
 use mathlib.Core.Path.{◌≡◌, sym, ap, ◌∙◌, subst}
 use Prim.Native.Nat.{ℕ, ◌^◌}
 use native.Mathlib.Omega.{arith}
@@ -9,7 +9,7 @@ use Rattle.std.specs.Ordering.{is_ge}
 use Rattle.algebraic.proofs.Orderings.{ge_true, ge_false}
 use Rattle.third_angle_sine.proofs.Rounding.{scaled, monotone, below_half, above_least, next_binade}
 use Rattle.algebraic.specs.Reals.{units}
-use Rattle.third_angle_sine.proofs.digits.binade.Goals as goal
+use Rattle.third_angle_sine.proofs.digits.rising_binade.Goals as goal
 
 found : (u e : ℕ) → AtMost (2 ^ 53) (scaled 0 u e) → Above (2 ^ 54) (scaled 0 u e) → InBinade (scaled 0 u e)
 found u e s l = record { monotone = monotone 0 u e; start = s; end = l }
