@@ -25,10 +25,10 @@ pub fn times_pass(t: [f64; 7]) -> bool
 pub fn phases_pass(reached: ReachedLimits, t: [f64; 7]) -> bool
     ensures { result ≡ phases_pass reached t }
 {
-    let both = reached.is_acc0_acc1();
+    let both = reached == ReachedLimits::Acc0Acc1;
     !(reached.ends_in_vel() & (t[3] < f64::EPSILON))
-        & !((reached.is_acc0() | both) & (t[1] < f64::EPSILON))
-        & !((reached.is_acc1() | both) & (t[5] < f64::EPSILON))
+        & !(((reached == ReachedLimits::Acc0) | both) & (t[1] < f64::EPSILON))
+        & !(((reached == ReachedLimits::Acc1) | both) & (t[5] < f64::EPSILON))
 }
 
 #[tactic(auto, unfolding(crate::specs::Check::sum_passes))]

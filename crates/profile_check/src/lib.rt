@@ -71,14 +71,10 @@ pub fn filled(
         a,
         v,
         p,
-        brake: q.brake,
-        accel: q.accel,
-        pf: q.pf,
-        vf: q.vf,
-        af: q.af,
         limits: reached,
         direction,
         control_signs,
+        ..q
     }
 }
 

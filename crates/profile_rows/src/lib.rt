@@ -73,7 +73,7 @@ pub fn row_after(r: Row, t: f64, j: f64) -> Row
 fn stored_if(b: bool, a: f64, r: Row) -> Row
     ensures { result ≡ stored_if b a r }
 {
-    if b { Row { a, v: r.v, p: r.p } } else { r }
+    if b { Row { a, ..r } } else { r }
 }
 
 // Row 1 or 5, as the check keeps it.
@@ -81,7 +81,7 @@ fn stored_if(b: bool, a: f64, r: Row) -> Row
 pub fn outer_row(reached: ReachedLimits, set_limits: bool, limit: f64, r: Row) -> Row
     ensures { result ≡ outer_row reached set_limits limit r }
 {
-    stored_if(set_limits & reached.is_acc0_acc1(), limit, r)
+    stored_if(set_limits & (reached == ReachedLimits::Acc0Acc1), limit, r)
 }
 
 // Row 3, as the check keeps it.
@@ -89,8 +89,16 @@ pub fn outer_row(reached: ReachedLimits, set_limits: bool, limit: f64, r: Row) -
 pub fn middle_row(reached: ReachedLimits, set_limits: bool, a_min: f64, r: Row) -> Row
     ensures { result ≡ middle_row reached set_limits a_min r }
 {
-    let cleared = stored_if(reached.ends_in_vel() | reached.is_acc0_acc1(), 0.0, r);
-    stored_if(set_limits & reached.is_acc1(), a_min, cleared)
+    let cleared = stored_if(
+        reached.ends_in_vel() | (reached == ReachedLimits::Acc0Acc1),
+        0.0,
+        r,
+    );
+    stored_if(
+        set_limits & (reached == ReachedLimits::Acc1),
+        a_min,
+        cleared,
+    )
 }
 
 // Inlined: as a call its rows go through memory, and a plan takes 2.5 % longer.
