@@ -9,7 +9,8 @@ pub const AXES_MOST: usize = 8;
 
 pub const ENDS_LENGTH: usize = 4;
 
-// A stretch of blocked times, its ends excluded; 0 and 0 where it is missing.
+// A stretch of blocked times, its ends excluded; 0 and 0 where it is missing. No Option: it is two numbers of the
+// caller's slices as they stand, the definitions ask for two numbers, and `past` holds without asking: none is inside.
 #[derive(Clone, Copy)]
 pub struct Stretch {
     pub left: f64,

@@ -1,13 +1,16 @@
 // A try that the check judges, and the list of accepted profiles.
 #![tactic(auto)]
 
-ghost use Rattle.std.specs.Prelude.{◌≡◌};
+ghost use Rattle.std.specs.Prelude.{◌≡◌, false};
+ghost use Rattle.profile.specs.declared.ControlSigns.TheVariants.{UDDU};
 ghost use Rattle.candidates.specs.Try.{passes, profile_of};
 ghost use Rattle.candidates.specs.List.{fresh_list};
 
 use profile::{ControlSigns, Limits, Profile, ReachedLimits, Start, Target};
+use profile_check::Terms;
 
-// Seven times that a family of step 1 puts to the check, from a start to a target.
+// Seven times that a family of step 1 puts to the check, from a start to a target. Of the check's terms it holds what
+// families choose: each try has UDDU and stores no limit, which with all the terms in it would have to be proved of it.
 #[derive(Clone, Copy)]
 pub struct Try {
     pub start: Start,
@@ -27,21 +30,26 @@ pub struct Candidates {
     pub current_index: usize,
 }
 
+// Each check of step 1 has UDDU and stores no limit.
+fn terms_of(x: Try) -> Terms
+    ensures { result ≡
+        record { control_signs = UDDU; reached = x.reached; set_limits = false; jf = x.jf; limits = x.limits } }
+{
+    Terms {
+        control_signs: ControlSigns::UDDU,
+        reached: x.reached,
+        set_limits: false,
+        jf: x.jf,
+        limits: x.limits,
+    }
+}
+
 // Whether the check accepts a try.
 #[tactic(auto, unfolding(crate::specs::Try::passes))]
 pub fn passes(x: Try) -> bool
     ensures { result ≡ passes x }
 {
-    profile_check::accepts(
-        x.start,
-        x.target,
-        x.t,
-        ControlSigns::UDDU,
-        x.reached,
-        false,
-        x.jf,
-        x.limits,
-    )
+    profile_check::accepts(x.start, x.target, x.t, terms_of(x))
 }
 
 // The profile that the check makes of a try, with these durations. No `From`, since the durations are no part of a try.
@@ -54,15 +62,7 @@ pub fn profile_of(brake: f64, accel: f64, x: Try) -> Profile
         accel,
         ..Profile::empty()
     };
-    profile_check::filled(
-        empty.with_boundary(x.start, x.target),
-        x.t,
-        ControlSigns::UDDU,
-        x.reached,
-        false,
-        x.jf,
-        x.limits,
-    )
+    profile_check::filled(empty.with_boundary(x.start, x.target), x.t, terms_of(x))
 }
 
 impl Candidates {

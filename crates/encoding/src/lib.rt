@@ -15,7 +15,7 @@ pub fn double_at(b: &[u8], at: usize) -> f64
     f64_from_bits_with_nan(u64::from_be_bytes(words[0]))
 }
 
-// N doubles one behind the other, the first of them at `at`.
+// N doubles one behind the other, the first of them at `at`. By index: with `from_fn` the check doesn't find `returns`.
 #[tactic(auto, using(crate::proofs::Laws::one_more), unfolding(crate::specs::Encoding::doubles_at))]
 pub fn doubles_at<const N: usize>(b: &[u8], at: usize) -> [f64; N]
     requires { at + 8 * N ≤ length b.now }
@@ -28,7 +28,7 @@ pub fn doubles_at<const N: usize>(b: &[u8], at: usize) -> [f64; N]
     doubles
 }
 
-// The ASCII of a hexadecimal digit.
+// The ASCII of a hexadecimal digit, in capitals, which the kit's `hex` writes into new memory only; this takes none.
 #[tactic(auto, unfolding(crate::specs::Encoding::hex_digit))]
 fn hex_digit(d: u8) -> u8
     requires { d < 16 }
@@ -37,7 +37,8 @@ fn hex_digit(d: u8) -> u8
     if d < 10 { b'0' + d } else { b'A' + (d - 10) }
 }
 
-// The sixteen hexadecimal digits of w.
+// The sixteen hexadecimal digits of w. By index, since of what is written through `iter_mut().rev()` the library says
+// nothing.
 pub fn hex16(w: u64) -> [u8; 16]
     ensures { result ≡ hex_digits 16 w }
 {

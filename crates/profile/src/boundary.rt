@@ -69,15 +69,10 @@ impl Profile {
     pub fn with_boundary_from_profile(self, other: Profile) -> Profile
         ensures { result ≡ boundary_from self other }
     {
-        let mut out = self;
-        out.a[0] = other.a[0];
-        out.v[0] = other.v[0];
-        out.p[0] = other.p[0];
-        out.af = other.af;
-        out.vf = other.vf;
-        out.pf = other.pf;
-        out.brake = other.brake;
-        out.accel = other.accel;
-        out
+        Profile {
+            brake: other.brake,
+            accel: other.accel,
+            ..self.with_boundary(other.start(), other.target())
+        }
     }
 }

@@ -39,7 +39,7 @@ pub enum ControlSigns {
 }
 
 // Seven phases of constant jerk, and the eight rows before and after them. brake and accel are durations that are only
-// added.
+// added. Arrays side by side, and pf, vf and af beside them, as document 01 has a profile.
 #[derive(Clone, Copy)]
 pub struct Profile {
     pub t: [f64; 7],

@@ -1,7 +1,7 @@
 // What a name of reached limits asks of the check.
 
 ghost use Rattle.std.specs.Prelude.{◌≡◌};
-ghost use Rattle.profile.specs.Names.{ends_in_vel, is_acc0, is_acc1, is_acc0_acc1};
+ghost use Rattle.profile.specs.Names.{ends_in_vel};
 ghost use Rattle.profile.specs.Names.{direction_number, limits_number, control_signs_number};
 
 use crate::{ControlSigns, Direction, ReachedLimits};
@@ -17,24 +17,6 @@ impl ReachedLimits {
                 | ReachedLimits::Acc0Vel
                 | ReachedLimits::Acc1Vel
         )
-    }
-
-    pub fn is_acc0(self) -> bool
-        ensures { result ≡ is_acc0 self }
-    {
-        matches!(self, ReachedLimits::Acc0)
-    }
-
-    pub fn is_acc1(self) -> bool
-        ensures { result ≡ is_acc1 self }
-    {
-        matches!(self, ReachedLimits::Acc1)
-    }
-
-    pub fn is_acc0_acc1(self) -> bool
-        ensures { result ≡ is_acc0_acc1 self }
-    {
-        matches!(self, ReachedLimits::Acc0Acc1)
     }
 }
 

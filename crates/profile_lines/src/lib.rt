@@ -30,7 +30,7 @@ const NAMES_WIDTH: usize = DIRECTION_WIDTH + LIMITS_WIDTH + CONTROL_SIGNS_WIDTH;
 pub const PROFILE_WIDTH: usize = NAMES_WIDTH + DOUBLE_WIDTH * profile::DOUBLES;
 
 // What is written as one of a few names: the field of a name takes at most `width` bytes. The impls differ only in
-// their names.
+// their names. No Display: what `write!` appends is stated for a `String`, and no line takes memory.
 pub trait Name {
     ghost name_of: { Self → List ℕ };
 

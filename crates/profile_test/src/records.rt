@@ -6,7 +6,7 @@ ghost use Rattle.profile_test.specs.Records.{checked_of};
 
 use encoding::{double_at, doubles_at};
 use profile::{ControlSigns, Limits, Profile, ReachedLimits, Start, Target};
-use profile_check::check;
+use profile_check::{Terms, check};
 
 // Limits and control signs by their numbers: any other byte is the last name. A `TryFrom` of each enum would have the
 // same arms, and an `unwrap_or` here besides.
@@ -66,16 +66,12 @@ fn bounds_of(bytes: &[u8; 147]) -> Limits
 pub fn checked_of(bytes: &[u8; 147]) -> Option<Profile>
     ensures { result ≡ checked_of bytes.now }
 {
-    let signs = control_signs_of(bytes[145]);
-    let reached = limits_of(bytes[144]);
-    let set_limits = bytes[146] == 1;
-    let jf = double_at(bytes, 104);
-    check(
-        profile_of(bytes),
-        signs,
-        reached,
-        set_limits,
-        jf,
-        bounds_of(bytes),
-    )
+    let x = Terms {
+        control_signs: control_signs_of(bytes[145]),
+        reached: limits_of(bytes[144]),
+        set_limits: bytes[146] == 1,
+        jf: double_at(bytes, 104),
+        limits: bounds_of(bytes),
+    };
+    check(profile_of(bytes), x)
 }

@@ -8,7 +8,7 @@ use Rattle.replay.proofs.replay_bound.Goals as goal
 pub returns : goal.returns
 returns c =
     let m = of_machine c.args.q _ c.well_formed.0 in
-    let d : ProfileFits c.args.q (λ i. c.args.jf) =
+    let d : ProfileFits c.args.q (λ i. c.args.x.jf) =
     record {
       start = record { p = m.p.doubles 0; v = m.v.doubles 0; a = m.a.doubles 0 };
       times = λ i l. m.t.doubles i;
