@@ -1,5 +1,5 @@
-// What the bytes of a record mean. They begin as a move's do, but `Move::from` is the planner's, which is built on what is
-// called here.
+// What the bytes of a record mean. They begin as a move's do, but `Move::from` is the planner's, which is built on what
+// is called here.
 
 ghost use Rattle.std.specs.Prelude.{◌≡◌, ◌<◌, ◌||◌, eqb, ltb, get_or};
 ghost use Rattle.profile_check.specs.Check.{passed};
