@@ -1,5 +1,6 @@
 // Phase times of the two solutions of time_acc0_acc1, the numbers h1 to h3 and the guards: the Rust's formulas line by
-// line, so each solution is written out.
+// line, so each solution is written out. h1 to h3 are loose as there: they lie among the numbers that any family's tries
+// share, so a struct of them would be made anew for each of four calls.
 
 ghost use Rattle.std.specs.Prelude.{◌≡◌};
 ghost use Rattle.phase_times.specs.TimeAcc0Acc1.{acc0_acc1_radicand, acc0_acc1_h1, acc0_acc1_h2, acc0_acc1_h3};

@@ -88,7 +88,8 @@ impl Correction {
     }
 }
 
-// A root above EPSILON is corrected once to three times.
+// A root above EPSILON is corrected once to three times. The test stands here as in the other two tries (time_acc0.rt
+// says why); what the corrections share is put together only where it holds.
 #[tactic(auto, unfolding(crate::specs::CorrectionAcc1::corrected_acc1))]
 pub fn corrected_acc1(
     start: Start,

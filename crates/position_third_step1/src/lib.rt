@@ -1,7 +1,9 @@
 // The families of step 1: position_third_step1.rs up to `get_profile`. A family is a row of at most four slots, each of
 // which holds a try or none, in the Rust's order. What a try's times are stands in `phase_times` and the crates beside
 // it; which try is where stands here; what is done with them is `search`'s. No try depends on what the check says of
-// another. The definitions that the contracts cite are in specs/.
+// another. Start, target and limits are three records, since document 01 has each of them travel as one; k, the constants
+// that the Rust computes once, goes beside them (entry 76 of docs/DECISIONS.md). The definitions that the contracts cite are in
+// specs/.
 #![tactic(auto)]
 
 mod families; // families.rt: the families by name, and what the tries of one share

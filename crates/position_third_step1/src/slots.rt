@@ -1,6 +1,4 @@
-// The slots of any family: how many it has, which hold a try, and the times of one that does. Start, target and
-// limits are three records, since document 01 has each of them travel as one; the constants that the Rust computes once
-// go beside them (entry 76 of docs/DECISIONS.md).
+// The slots of any family: how many it has, which hold a try, and the times of one that does.
 
 #![tactic(auto, using(crate::proofs::SlotLaws::of_slots), unfolding(crate::specs::Families::slots_of, crate::specs::Slots::always))]
 

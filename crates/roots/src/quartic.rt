@@ -11,7 +11,8 @@ use sqrt::sqrt;
 
 const EPS_M_BY_16: f64 = 16.0 * f64::EPSILON;
 
-// The roots of x⁴ + a x³ + b x² + c x + d that are at least 0.
+// The roots of x⁴ + a x³ + b x² + c x + d that are at least 0. The four are loose, and named so, as in the Rust, whose
+// formulas follow; `Quartic` is of a crate that this one doesn't use, and names them otherwise.
 #[tactic(auto, unfolding(crate::specs::Quartic::quartic_of))]
 pub fn solve_quart_monic_coeffs(a: f64, b: f64, c: f64, d: f64) -> Roots
     ensures { result ≡ quartic_of a b c d }

@@ -30,7 +30,7 @@ fn put_roots(line: &mut ArrayVec<u8, 89>, list: Roots)
     requires { array_vec_len line.old + 68 ≤ 89 }
     ensures { Appends line.old line.new (double_fields (take list.count list.values)) 68 }
 {
-    put_doubles(line, &list.values[..list.count.min(4)]);
+    put_doubles(line, list.as_slice());
 }
 
 struct Quartics;

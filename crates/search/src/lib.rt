@@ -26,8 +26,15 @@ fn slot_after(stops: bool, count: usize, next: usize) -> usize
     if stops { count } else { next }
 }
 
-// The list after these stages of a kind. A turn enters a stage or tries a slot: two loops, one in the other, were
-// measured to be slower (entry 59 of docs/DECISIONS.md).
+// At most five profiles count; the sixth slot is scratch.
+const SLOTS: usize = 6;
+
+const COUNTED: usize = 5;
+
+// The list after these stages of a kind. A turn enters a stage or tries a slot: two loops, one in the other, took 2.00
+// to 2.05 times the Rust's time, and this 1.58 to 1.66 (entry 59 of docs/DECISIONS.md; unproved, by an older kit). A
+// profile is added here: a function that takes the list and gives it back took 1.57 to 1.64, and this 1.41 to 1.54 (as
+// there), and none takes `&mut Candidates`, since document 01 has the list go in by value and come back.
 pub fn search(
     c: Candidates,
     start: Start,
@@ -76,11 +83,11 @@ pub fn search(
         }
         i = slot_after(stops, count, i);
         let at = d.current_index;
-        if at < 6 {
+        if at < SLOTS {
             let current = d.valid_profiles[at];
             let profile = profile_of(current.brake, current.accel, x);
             d.valid_profiles[at] = profile;
-            if at < 5 {
+            if at < COUNTED {
                 let next = at + 1;
                 let beyond = d.valid_profiles[next];
                 d.valid_profiles[next] = beyond.with_boundary_from_profile(profile);

@@ -176,9 +176,8 @@ pub fn stage_count(kind: Kind) -> usize
     }
 }
 
-// The stage n: by number, as the search holds its place and the definitions count; a table of stages would have no
-// answer for numbers behind its end. The first search of a rest that is its own target has three stages, that of
-// another move ten; the two-step families follow.
+// The stage n: by number, as specs/Stages.antt counts. The first search of a rest that is its own target has three
+// stages, that of another move ten; the two-step families follow.
 #[tactic(auto, unfolding(crate::specs::Stages::stage_at))]
 pub fn stage_at(kind: Kind, n: usize) -> Stage
     ensures { result ≡ stage_at kind n }

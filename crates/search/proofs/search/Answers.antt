@@ -66,21 +66,21 @@ success p e =
     p.slot_after-i.ensures
     e
 
-pub loop-i-preserved-then-at-lt5 : goal.loop-i-preserved-then-at-lt5
-loop-i-preserved-then-at-lt5 c =
+pub loop-i-preserved-then-at-lt-COUNTED : goal.loop-i-preserved-then-at-lt-COUNTED
+loop-i-preserved-then-at-lt-COUNTED c =
     let stored = c.before.before.before in
     success stored.before.before.before
-    (added_below _ _ c.loop-i.invariant.six _ c.if-at-lt5.true c.profile_of-profile.ensures
+    (added_below _ _ c.loop-i.invariant.six _ c.if-at-lt-COUNTED.true c.profile_of-profile.ensures
     c.with_boundary_from_profile.ensures)
 
-pub loop-i-preserved-else-at-lt5 : goal.loop-i-preserved-else-at-lt5
-loop-i-preserved-else-at-lt5 c =
+pub loop-i-preserved-else-at-lt-COUNTED : goal.loop-i-preserved-else-at-lt-COUNTED
+loop-i-preserved-else-at-lt-COUNTED c =
     success c.before.before.before.before
-    (added_last _ _ c.loop-i.invariant.six _ (le_of_suc-le-suc c.if-at-lt6.true) c.if-at-lt5.false
+    (added_last _ _ c.loop-i.invariant.six _ (le_of_suc-le-suc c.if-at-lt-SLOTS.true) c.if-at-lt-COUNTED.false
     c.profile_of-profile.ensures)
 
 pub loop-i-preserved : goal.loop-i-preserved
-loop-i-preserved c = success c.before (added_out _ _ c.loop-i.invariant.six c.if-at-lt6.false)
+loop-i-preserved c = success c.before (added_out _ _ c.loop-i.invariant.six c.if-at-lt-SLOTS.false)
 
 pub returns : goal.returns
 returns c =
