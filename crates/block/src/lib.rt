@@ -12,7 +12,7 @@ use refusals::Refusal;
 mod select; // select.rt: calculate_block
 mod removal; // removal.rt: which of four profiles goes
 
-// A blocked stretch: nothing, between two times, or from a time on.
+// A blocked stretch: nothing, between two times, or from a time on: the three cases of document 01.
 #[derive(Clone, Copy)]
 pub enum Stretch {
     Nothing,
@@ -20,7 +20,8 @@ pub enum Stretch {
     From(f64),
 }
 
-// A stretch and the profile beside it: the far one of a stretch between two times, else the empty profile.
+// A stretch and the profile beside it: the far one of a stretch between two times, else the empty profile. Document 01
+// has the profile beside the stretch, not in it, because it holds arrays.
 #[derive(Clone, Copy)]
 pub struct Interval {
     pub stretch: Stretch,
@@ -64,7 +65,7 @@ impl Interval {
         }
     }
 
-    // From a time on.
+    // From a time on, with the empty profile. Document 01's wording, and no conversion, so no From.
     #[tactic(auto, unfolding(crate::specs::Blocks::interval_from))]
     pub fn from(t: f64) -> Interval
         ensures { result ≡ interval_from t }
@@ -118,7 +119,8 @@ impl Stretch {
         }
     }
 
-    // Its ends: 0 for nothing, and infinity as the right end of a stretch from a time on.
+    // Its ends: 0 for nothing, and infinity as the right end of a stretch from a time on. No Option: a plan's buffer,
+    // the axes of `arrival` and `plan_full`'s lines have two numbers for each stretch.
     pub fn left_end(self) -> f64
         ensures { result ≡ left_end self }
     {

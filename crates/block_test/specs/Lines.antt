@@ -1,5 +1,5 @@
 -- The line that answers a record: what selection answers, and what `is_blocked` says of four times. Definitions only.
-use Rattle.std.specs.Prelude.{ℕ, Bool, true, false, List, ◌++◌, Float, Result, Ok, Err}
+use Rattle.std.specs.Prelude.{ℕ, ◌+◌, ◌*◌, Bool, true, false, List, ◌++◌, Float, Result, Ok, Err}
 use Rattle.std.specs.List.{flat_map}
 use Rattle.profile_lines.specs.Text.{ascii}
 use Rattle.profile_lines.specs.Fields.{field, hex, double_fields}
@@ -48,3 +48,16 @@ line_of b =
     ++ blocking_fields (plan_in (selected_of b)) (times_of b)
     ++ blocking_fields (given_of b) (times_of b)
     ++ ascii "\n"
+
+-- ---- how many bytes a stretch, an answer, what is said of a time, and a line may take
+abbrev pub interval_width : ℕ
+interval_width = 59
+
+abbrev pub answer_width : ℕ
+answer_width = 154
+
+abbrev pub blocking_width : ℕ
+blocking_width = 10
+
+abbrev pub line_length : ℕ
+line_length = answer_width + 2 * 4 * blocking_width + 1

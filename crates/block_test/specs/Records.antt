@@ -1,5 +1,5 @@
 -- What the bytes of a record mean: a count, six profiles, a block, and four times. Definitions only.
-use Rattle.std.specs.Prelude.{ℕ, ◌+◌, cond, List, [], ◌∷◌, eqb, get_or, set, Float}
+use Rattle.std.specs.Prelude.{ℕ, ◌+◌, ◌*◌, cond, List, [], ◌∷◌, eqb, get_or, set, Float}
 use Rattle.doubles.specs.Constants.{1ᶠ, 2ᶠ, 3ᶠ, 4ᶠ, 5ᶠ, 6ᶠ}
 use Rattle.encoding.specs.Encoding.{double_at}
 use Rattle.profile.specs.Boundary.{empty_profile, start_of, with_boundary}
@@ -14,6 +14,10 @@ use Rattle.block.specs.declared.Stretch.TheVariants.{Nothing, Between, From}
 use Rattle.block.specs.declared.Interval.{Interval}
 use Rattle.block.specs.declared.Block.{Block}
 use Rattle.block.specs.Blocks.{Answer}
+
+-- how long a record is: a count, six profiles, a double and two stretches, and four times
+abbrev pub record_length : ℕ
+record_length = 1 + 6 * 25 + 8 + 2 * 17 + 4 * 8
 
 -- ---- names by their numbers
 

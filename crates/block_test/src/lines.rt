@@ -1,10 +1,11 @@
 // The line that answers a record: what selection answers, and what `is_blocked` says of four times.
 
-ghost use Rattle.std.specs.Prelude.{◌+◌, ◌*◌, ◌≤◌, length};
+ghost use Rattle.std.specs.Prelude.{◌≡◌, ◌+◌, ◌*◌, ◌≤◌, length};
 ghost use Rattle.arrayvec.specs.ArrayVec.{array_vec_len};
 ghost use Rattle.profile_lines.specs.Text.{Appends};
 ghost use Rattle.profile_lines.specs.Fields.{field};
 ghost use Rattle.block_test.specs.Lines.{interval_fields, block_text, answer_text, blocking_name, blocking_fields};
+ghost use Rattle.block_test.specs.Lines.{interval_width, answer_width, blocking_width, line_length};
 
 use arrayvec::ArrayVec;
 use block::{Block, Interval};
@@ -13,11 +14,14 @@ use profile_lines::{hex, put, put_field, put_name};
 use refusals::Refusal;
 use stretch_lines::{Kind, put_both_ends};
 
+// An answer, what is said of four times for each of two blocks, and a line feed.
+pub const LINE_LENGTH: usize = 154 + 2 * 4 * 10 + 1;
+
 // A stretch and the mark of the profile beside it.
 #[tactic(auto, unfolding(crate::specs::Lines::interval_fields))]
-fn put_interval(line: &mut ArrayVec<u8, 235>, i: Interval)
-    requires { array_vec_len line.old + 59 ≤ 235 }
-    ensures { Appends line.old line.new (interval_fields i) 59 }
+fn put_interval(line: &mut ArrayVec<u8, LINE_LENGTH>, i: Interval)
+    requires { array_vec_len line.old + interval_width ≤ line_length }
+    ensures { Appends line.old line.new (interval_fields i) interval_width }
 {
     put_name(line, Kind(i.stretch));
     put_both_ends(line, i.stretch);
@@ -25,9 +29,9 @@ fn put_interval(line: &mut ArrayVec<u8, 235>, i: Interval)
 }
 
 #[tactic(auto, unfolding(crate::specs::Lines::block_text))]
-fn put_block(line: &mut ArrayVec<u8, 235>, x: Block)
-    requires { array_vec_len line.old + 154 ≤ 235 }
-    ensures { Appends line.old line.new (block_text x) 154 }
+fn put_block(line: &mut ArrayVec<u8, LINE_LENGTH>, x: Block)
+    requires { array_vec_len line.old + answer_width ≤ line_length }
+    ensures { Appends line.old line.new (block_text x) answer_width }
 {
     put(line, b"ok");
     put_field(line, &hex(x.t_min));
@@ -37,9 +41,9 @@ fn put_block(line: &mut ArrayVec<u8, 235>, x: Block)
 }
 
 #[tactic(auto, unfolding(crate::specs::Lines::answer_text))]
-pub fn put_answer(line: &mut ArrayVec<u8, 235>, x: Result<Block, Refusal>)
-    requires { array_vec_len line.old + 154 ≤ 235 }
-    ensures { Appends line.old line.new (answer_text x) 154 }
+pub fn put_answer(line: &mut ArrayVec<u8, LINE_LENGTH>, x: Result<Block, Refusal>)
+    requires { array_vec_len line.old + answer_width ≤ line_length }
+    ensures { Appends line.old line.new (answer_text x) answer_width }
 {
     match x {
         Ok(block) => put_block(line, block),
@@ -50,10 +54,11 @@ pub fn put_answer(line: &mut ArrayVec<u8, 235>, x: Result<Block, Refusal>)
     }
 }
 
-// Refusal 6 is the only one.
-fn put_blocking(line: &mut ArrayVec<u8, 235>, x: Result<bool, Refusal>)
-    requires { array_vec_len line.old + 10 ≤ 235 }
-    ensures { Appends line.old line.new (field (blocking_name x)) 10 }
+// Refusal 6 is the only one that `is_blocked` gives, and the definition has its text: `put_number` would ask room for a
+// number of 20 digits in each of the eight fields.
+fn put_blocking(line: &mut ArrayVec<u8, LINE_LENGTH>, x: Result<bool, Refusal>)
+    requires { array_vec_len line.old + blocking_width ≤ line_length }
+    ensures { Appends line.old line.new (field (blocking_name x)) blocking_width }
 {
     match x {
         Ok(true) => put(line, b" blocked"),
@@ -63,11 +68,16 @@ fn put_blocking(line: &mut ArrayVec<u8, 235>, x: Result<bool, Refusal>)
 }
 
 // What `is_blocked` says of each time.
-pub fn put_blockings(line: &mut ArrayVec<u8, 235>, x: Block, times: &[f64])
-    requires { array_vec_len line.old + 10 * length times.now ≤ 235 }
-    ensures { Appends line.old line.new (blocking_fields x times.now) (10 * length times.now) }
+pub fn put_blockings(line: &mut ArrayVec<u8, LINE_LENGTH>, x: Block, times: &[f64])
+    requires { array_vec_len line.old + blocking_width * length times.now ≤ line_length }
+    ensures { Appends line.old line.new (blocking_fields x times.now) (blocking_width * length times.now) }
 {
     for &t in times {
         put_blocking(line, x.is_blocked(t));
     }
 }
+
+// The length of the code is that of the definitions.
+pub fn line_constants()
+    ensures { LINE_LENGTH ≡ line_length }
+{}

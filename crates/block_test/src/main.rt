@@ -14,25 +14,25 @@ mod lines; // lines.rt: the line that answers a record
 use answering::{Answers, answer_records, read_array};
 use arrayvec::ArrayVec;
 use block::Block;
-use lines::{put_answer, put_blockings};
+use lines::{LINE_LENGTH, put_answer, put_blockings};
 use profile_lines::put;
-use records::{given_of, selected_of, times_of};
+use records::{RECORD_LENGTH, given_of, selected_of, times_of};
 use std::io::Read;
 
 struct Blocks;
 
-impl Answers<235> for Blocks {
-    type Record = [u8; 225];
+impl Answers<LINE_LENGTH> for Blocks {
+    type Record = [u8; RECORD_LENGTH];
 
     ghost bytes = { λ b. b };
 
     ghost answers = { λ b text. text ≡ line_of b };
 
-    fn read<R: Read>(reader: &mut R) -> Option<[u8; 225]> {
+    fn read<R: Read>(reader: &mut R) -> Option<[u8; RECORD_LENGTH]> {
         read_array(reader)
     }
 
-    fn line(of: [u8; 225]) -> ArrayVec<u8, 235> {
+    fn line(of: [u8; RECORD_LENGTH]) -> ArrayVec<u8, LINE_LENGTH> {
         let answer = selected_of(&of);
         let block = answer.unwrap_or(Block::empty());
         let times = times_of(&of);

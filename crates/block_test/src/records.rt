@@ -2,13 +2,18 @@
 
 ghost use Rattle.std.specs.Prelude.{◌≡◌, ◌+◌, ◌≤◌};
 ghost use Rattle.block_test.specs.Records.{direction_of, stretch_of, profile_at, profiles_of, selected_of, interval_at};
-ghost use Rattle.block_test.specs.Records.{given_of, times_of};
+ghost use Rattle.block_test.specs.Records.{given_of, times_of, record_length};
 
 use block::{Block, Interval, Stretch};
 use encoding::{double_at, doubles_at};
 use profile::{Direction, Profile};
 use refusals::Refusal;
 
+// A count, six profiles, a block of a double and two stretches, and four times.
+pub const RECORD_LENGTH: usize = 1 + 6 * 25 + 8 + 2 * 17 + 4 * 8;
+
+// By number: the record's byte is any number, and each that is no other case's is the last one's, so there is nothing
+// that a TryFrom would refuse.
 #[tactic(auto, unfolding(crate::specs::Records::direction_of))]
 fn direction_of(n: u8) -> Direction
     ensures { result ≡ direction_of n }
@@ -31,8 +36,8 @@ fn stretch_of(n: u8, left: f64, right: f64) -> Stretch
 }
 
 // The profile of the 25 bytes from `at` on, with a mark as its pf.
-fn profile_at(bytes: &[u8; 225], at: usize, mark: f64) -> Profile
-    requires { at + 25 ≤ 225 }
+fn profile_at(bytes: &[u8; RECORD_LENGTH], at: usize, mark: f64) -> Profile
+    requires { at + 25 ≤ record_length }
     ensures { result ≡ profile_at bytes.now at mark }
 {
     let [total, brake, accel]: [f64; 3] = doubles_at(bytes, at);
@@ -46,8 +51,9 @@ fn profile_at(bytes: &[u8; 225], at: usize, mark: f64) -> Profile
     }
 }
 
+// The six as the definition lists them: `from_fn` would need each mark's double from the index, a conversion more.
 #[tactic(auto, unfolding(crate::specs::Records::profiles_of))]
-fn profiles_of(bytes: &[u8; 225]) -> [Profile; 6]
+fn profiles_of(bytes: &[u8; RECORD_LENGTH]) -> [Profile; 6]
     ensures { result ≡ profiles_of bytes.now }
 {
     [
@@ -62,15 +68,15 @@ fn profiles_of(bytes: &[u8; 225]) -> [Profile; 6]
 
 // What selection answers.
 #[tactic(auto, unfolding(crate::specs::Records::selected_of))]
-pub fn selected_of(bytes: &[u8; 225]) -> Result<Block, Refusal>
+pub fn selected_of(bytes: &[u8; RECORD_LENGTH]) -> Result<Block, Refusal>
     ensures { result ≡ selected_of bytes.now }
 {
     Block::calculate_block(profiles_of(bytes), usize::from(bytes[0]))
 }
 
 #[tactic(auto, unfolding(crate::specs::Records::interval_at, encoding::specs::Encoding::doubles_at))]
-fn interval_at(bytes: &[u8; 225], at: usize) -> Interval
-    requires { at + 17 ≤ 225 }
+fn interval_at(bytes: &[u8; RECORD_LENGTH], at: usize) -> Interval
+    requires { at + 17 ≤ record_length }
     ensures { result ≡ interval_at bytes.now at }
 {
     let [left, right]: [f64; 2] = doubles_at(bytes, at + 1);
@@ -82,7 +88,7 @@ fn interval_at(bytes: &[u8; 225], at: usize) -> Interval
 
 // The block that the record has.
 #[tactic(auto, unfolding(crate::specs::Records::given_of))]
-pub fn given_of(bytes: &[u8; 225]) -> Block
+pub fn given_of(bytes: &[u8; RECORD_LENGTH]) -> Block
     ensures { result ≡ given_of bytes.now }
 {
     Block {
@@ -95,8 +101,13 @@ pub fn given_of(bytes: &[u8; 225]) -> Block
 
 // The four times that a block is asked about.
 #[tactic(auto, unfolding(encoding::specs::Encoding::doubles_at))]
-pub fn times_of(bytes: &[u8; 225]) -> [f64; 4]
+pub fn times_of(bytes: &[u8; RECORD_LENGTH]) -> [f64; 4]
     ensures { result ≡ times_of bytes.now }
 {
     doubles_at(bytes, 193)
 }
+
+// The length of the code is that of the definitions.
+pub fn record_constants()
+    ensures { RECORD_LENGTH ≡ record_length }
+{}

@@ -1,17 +1,14 @@
--- A buffer made and looked at number by number. Assumes nothing.
-use Prim.Native.Nat.{ℕ, ◌+◌, ◌<◌}
-use mathlib.Core.Path.{◌≡◌}
+-- A buffer looked at number by number. Assumes nothing.
+use mathlib.Core.Path.{◌≡◌, refl, ap}
 use mathlib.Core.Bool.{◌&&◌}
-use mathlib.Core.List.{List}
-use native.Mathlib.Numerals.{add-one}
-use lib.ListN.{length, drop}
-use lib.Seq.{drop-cons}
-use lib.Ieee.{Float, nan}
-use Rattle.doubles.specs.Operators.{◌==ᶠ◌, at}
+use mathlib.Core.List.{List, [], ◌∷◌}
+use lib.Ieee.{Float}
+use Rattle.std.specs.List.{list_all}
+use Rattle.doubles.specs.Operators.{◌==ᶠ◌}
 use Rattle.buffer_test.specs.Records.{minus1ᶠ}
 use Rattle.buffer_test.specs.Lines.{is_unchanged}
 
-pub one_more : (l : List Float) (i : ℕ) → i < length l
-    → is_unchanged (drop i l) ≡ ((at l i ==ᶠ minus1ᶠ) && is_unchanged (drop (i + 1) l))
+pub all_unchanged : (l : List Float) → list_all (λ x. x ==ᶠ minus1ᶠ) l ≡ is_unchanged l
 unfolding is_unchanged
-one_more l i h = rw (add-one, drop-cons l i nan h)
+all_unchanged [] = refl
+all_unchanged (x ∷ xs) = ap (λ b. (x ==ᶠ minus1ᶠ) && b) (all_unchanged xs)

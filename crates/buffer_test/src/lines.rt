@@ -19,14 +19,10 @@ pub const LINE_LENGTH: usize = 2 * DECIMAL_WIDTH + DOUBLE_WIDTH * BUFFER_MOST + 
 fn is_unchanged(buffer: &[f64]) -> bool
     ensures { result ≡ is_unchanged buffer.now }
 {
-    for &x in buffer {
-        if x != -1.0 {
-            return false;
-        }
-    }
-    true
+    buffer.iter().all(|&x| x == -1.0)
 }
 
+// The status as its number: the number is the line's first field, and what a line shows of the buffer goes by it.
 #[tactic(auto, unfolding(crate::specs::Lines::buffer_fields))]
 fn put_buffer(line: &mut ArrayVec<u8, LINE_LENGTH>, status: u64, buffer: &[f64])
     requires { (array_vec_len line.old + buffer_width ≤ line_length) × (length buffer.now ≤ buffer_most) }

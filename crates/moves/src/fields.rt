@@ -1,4 +1,6 @@
 // The fields of a line that aren't a profile's: stretches, plans, refusals. A space stands in front of each.
+// Each `put_*` states the room it needs and the bytes it appends: the room is that of the caller's line, whatever its
+// capacity, and a type for it would have a width for each function all the same.
 
 ghost use Rattle.std.specs.Prelude.{◌+◌, ◌≤◌};
 ghost use Rattle.arrayvec.specs.ArrayVec.{array_vec_len};
@@ -10,14 +12,16 @@ ghost use Rattle.stretch_lines.specs.Kinds.{both_ends_width};
 ghost use Rattle.moves.specs.Lines.{stretch_fields, plan_fields, refusal_fields, interval_fields, full_fields};
 ghost use Rattle.moves.specs.Lines.{count_width, stretches_width, plan_width, refusal_width, interval_width};
 ghost use Rattle.moves.specs.Lines.{full_width};
+ghost use Rattle.refusals.specs.Numbers.{refusal_number};
 
 use arrayvec::ArrayVec;
 use block::{Block, Interval, Stretch};
 use decimals::put_number;
 use profile_lines::{put_double, put_field, put_name, put_profile_fields};
+use refusals::Refusal;
 use stretch_lines::{Kind, put_both_ends};
 
-// How many stretches there are: 0, 1 or 2.
+// How many stretches there are: 0, 1 or 2. One digit: `put_number` asks room for 20, and LINE_LENGTH would grow.
 #[tactic(auto, using(crate::proofs::Putting::putting))]
 fn put_count<const N: usize>(line: &mut ArrayVec<u8, N>, a: Stretch, b: Stretch)
     requires { array_vec_len line.old + count_width ≤ N }
@@ -61,12 +65,12 @@ pub fn put_plan<const N: usize>(line: &mut ArrayVec<u8, N>, x: Block)
 }
 
 #[tactic(auto, using(crate::proofs::Putting::putting), unfolding(crate::specs::Lines::refusal_fields))]
-pub fn put_refusal<const N: usize>(line: &mut ArrayVec<u8, N>, number: u64)
+pub fn put_refusal<const N: usize>(line: &mut ArrayVec<u8, N>, refusal: Refusal)
     requires { array_vec_len line.old + refusal_width ≤ N }
-    ensures { Appends line.old line.new (refusal_fields number) refusal_width }
+    ensures { Appends line.old line.new (refusal_fields (refusal_number refusal)) refusal_width }
 {
     put_field(line, b"refused");
-    put_number(line, number);
+    put_number(line, u64::from(refusal));
 }
 
 // A stretch and the profile beside it.

@@ -111,7 +111,7 @@ fn put_answer<F: Form<N>, const N: usize>(line: &mut ArrayVec<u8, N>, x: Result<
 {
     match x {
         Ok(block) => F::put_plan(line, block),
-        Err(refusal) => put_refusal(line, u64::from(refusal)),
+        Err(refusal) => put_refusal(line, refusal),
     }
 }
 

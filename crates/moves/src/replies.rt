@@ -37,8 +37,8 @@ pub fn put_reply<F: Form<N>, const N: usize>(
     }
 }
 
-// The line that answers record number n takes the place of what line had, and whether another
-// may follow is said.
+// The line that answers record number n takes the place of what line had, and whether another may follow is said.
+// Beside `put_reply`, which asks its caller for room: of this nothing is asked, as the vector's type has the room.
 pub fn reply_to<F: Whole<N>, const N: usize>(
     n: u64,
     bytes: &[u8],

@@ -10,14 +10,14 @@ ghost use Rattle.plan_buffer.specs.Buffers.{wrong_length, plan_number, asked_num
 
 use crate::error::WRONG_LENGTH;
 use crate::layout::PLAN_LENGTH;
-use crate::read::{blocking, moved};
+use crate::read::blocking;
 use crate::write::write_plan;
-use planner::MOVE_LENGTH;
+use planner::{MOVE_LENGTH, Move};
 
 mod error; // error.rt: why nothing is answered, and the numbers of answers
 mod layout; // layout.rt: where the parts of a plan stand
 mod write; // write.rt: a plan into a lent slice
-mod read; // read.rt: a move, and what is asked of a plan, from a lent slice
+mod read; // read.rt: what is asked of a plan in a lent slice
 
 pub use error::{BufferError, asked_number, plan_number};
 
@@ -28,13 +28,14 @@ pub fn plan(mv: &[f64], buffer: &mut [f64]) -> Result<(), BufferError>
     ensures planned { Planned mv.now buffer.old (plan_number result) buffer.new }
     ensures joinable { HoldsJoinable (plan_number result) buffer.new }
 {
-    if mv.len() != MOVE_LENGTH {
+    let Ok(numbers) = <[f64; MOVE_LENGTH]>::try_from(mv) else {
         return Err(BufferError::WrongLength);
-    }
+    };
     if buffer.len() < PLAN_LENGTH {
         return Err(BufferError::WrongLength);
     }
-    match planner::plan(moved(mv)) {
+    // By match: `?` copies the plan, which a landing before measured as 6 % of a plan's time.
+    match planner::plan(Move::from(numbers)) {
         Ok(block) => write_plan(&block, buffer),
         Err(refusal) => return Err(BufferError::from(refusal)),
     }

@@ -1,22 +1,11 @@
-// A move from a lent slice, and what is asked of a plan in one.
+// What is asked of a plan in a lent slice. Why a place beside the slice: as in write.rt.
 
 ghost use Rattle.std.specs.Prelude.{◌≡◌, ◌+◌, ◌≤◌, length};
-ghost use Rattle.planner.specs.Layout.{move_length, move_of};
 ghost use Rattle.plan_buffer.specs.Layout.{ends_length, plan_length};
 ghost use Rattle.plan_buffer.specs.Buffers.{inside_numbers, inside_at, blocking_in};
 
 use crate::layout::{DURATION_AT, STRETCH_A_AT, STRETCH_B_AT};
-use planner::{MOVE_LENGTH, Move};
 use refusals::Refusal;
-
-pub fn moved(mv: &[f64]) -> Move
-    requires { length mv.now ≡ move_length }
-    ensures { result ≡ move_of mv.now }
-{
-    let mut numbers = [0.0; MOVE_LENGTH];
-    numbers.copy_from_slice(mv);
-    Move::from(numbers)
-}
 
 // Whether t is inside a stretch of this kind and these ends. The comparisons of `Stretch::contains`, of the numbers
 // themselves: a caller's buffer may hold any kind, also 1.5 or NaN, so a Stretch would first be made by the same cases.
@@ -40,6 +29,7 @@ fn inside_at(buffer: &[f64], at: usize, t: f64) -> bool
     inside(buffer[at], buffer[at + 1], buffer[at + 2], t)
 }
 
+// The comparisons of `Block::is_blocked`, of the numbers themselves: why, see `inside`.
 #[tactic(auto, unfolding(crate::specs::Buffers::blocking_in, crate::specs::Buffers::is_blocked_from))]
 pub fn blocking(buffer: &[f64], t: f64) -> Result<bool, Refusal>
     requires { plan_length ≤ length buffer.now }

@@ -1,8 +1,10 @@
-// A plan into a lent slice.
+// A plan into a lent slice. The functions take the slice and a place in it: parts split off as arrays
+// (`split_first_chunk_mut`) come in an Option each, with a case for a slice too short, which the one test of the whole
+// length has answered.
 
 ghost use Rattle.std.specs.Prelude.{◌≡◌, ◌+◌, ◌≤◌, ◌++◌, length, drop};
 ghost use Rattle.block.specs.Blocks.{kind_number};
-ghost use Rattle.plan_buffer.specs.Layout.{numeral, profile_length, interval_length, plan_length, profile_numbers};
+ghost use Rattle.plan_buffer.specs.Layout.{profile_length, interval_length, plan_length, profile_numbers};
 ghost use Rattle.plan_buffer.specs.Layout.{interval_numbers, plan_numbers};
 ghost use Rattle.plan_buffer.specs.Steps.{stored};
 
@@ -10,7 +12,7 @@ use crate::layout::{DURATION_AT, ENDS_LENGTH, PROFILE_AT, STRETCH_A_AT, STRETCH_
 use block::{Block, Interval, Stretch};
 use profile::{NAMES, Profile};
 
-// By match: `as` takes no enum whose cases have fields.
+// By match: `as` takes no enum whose cases have fields. No From in `block`: only the buffers have a stretch by number.
 fn kind_number(stretch: Stretch) -> u32
     ensures { result ≡ kind_number stretch }
 {
@@ -19,12 +21,6 @@ fn kind_number(stretch: Stretch) -> u32
         Stretch::Between(_, _) => 1,
         Stretch::From(_) => 2,
     }
-}
-
-fn numeral(n: u32) -> f64
-    ensures { result ≡ numeral n }
-{
-    n as f64
 }
 
 // The numbers of x from `at` on.
@@ -40,9 +36,9 @@ fn put_profile(out: &mut [f64], at: usize, q: &Profile)
     ensures { out.new ≡ stored out.old at (profile_numbers q.now) }
 {
     let names = [
-        numeral(u32::from(q.direction)),
-        numeral(u32::from(q.limits)),
-        numeral(u32::from(q.control_signs)),
+        f64::from(u32::from(q.direction)),
+        f64::from(u32::from(q.limits)),
+        f64::from(u32::from(q.control_signs)),
     ];
     let doubles = q.doubles();
     put(out, at, &names);
@@ -55,7 +51,7 @@ fn put_interval(out: &mut [f64], at: usize, i: &Interval)
 {
     let stretch = i.stretch;
     let ends = [
-        numeral(kind_number(stretch)),
+        f64::from(kind_number(stretch)),
         stretch.left_end(),
         stretch.right_end(),
     ];

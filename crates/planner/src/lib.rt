@@ -28,6 +28,8 @@ pub struct Move {
     pub accel: f64,
 }
 
+// The conditions of document 01's table, each as its definition: free functions, as the records are `profile`'s, and
+// joined by `&` like the definitions, without an early end.
 #[tactic(auto, unfolding(crate::specs::Answers::finite_start))]
 fn finite_start(s: Start) -> bool
     ensures { result ≡ finite_start s }

@@ -7,7 +7,7 @@ use Rattle.plan_buffer.proofs.write.put_interval.Goals as goal
 pub returns : goal.returns
 returns c =
     interval_stored _ _ _ _ _ _ _ _
-    (c.numeral.ensures ∙ ap numeral c.kind_number.ensures)
+    (c.from.ensures ∙ ap numeral c.kind_number.ensures)
     c.left_end.ensures
     c.right_end.ensures
     c.put.ensures

@@ -7,9 +7,9 @@ use Rattle.plan_buffer.proofs.write.put_profile.Goals as goal
 pub returns : goal.returns
 returns c =
     profile_stored _ _ _ _ _ _ _ _ _
-    (c.numeral.ensures ∙ ap numeral c.from.ensures)
-    (c.numeral-2.ensures ∙ ap numeral c.from-2.ensures)
-    (c.numeral-3.ensures ∙ ap numeral c.from-3.ensures)
+    (c.from-2.ensures ∙ ap numeral c.from.ensures)
+    (c.from-4.ensures ∙ ap numeral c.from-3.ensures)
+    (c.from-6.ensures ∙ ap numeral c.from-5.ensures)
     c.doubles-doubles.ensures
     c.put.ensures
     c.put-2.ensures

@@ -2,7 +2,7 @@
 use Rattle.block.proofs.MemberLaws.{plan_or_empty}
 use Rattle.profile_lines.proofs.PutLaws.{then}
 use Rattle.block_test.specs.Lines.{line_of}
-use Rattle.block_test.proofs.BlocksAnswers235.line.Goals as goal
+use Rattle.block_test.proofs.BlocksAnswersLINE_LENGTH.line.Goals as goal
 
 pub returns : goal.returns
 unfolding line_of
