@@ -69,7 +69,7 @@ impl<'a> Axes<'a> {
         axis_at(self.durations, self.ends, i)
     }
 
-    // The largest duration, and +0 where all are zeros.
+    // The largest duration, and +0 where all are zeros. By `for`: a fold would have the same `if` in a closure.
     fn latest(&self) -> f64
         ensures { Latest self.now.durations.now (length self.now.durations.now) result }
     {
