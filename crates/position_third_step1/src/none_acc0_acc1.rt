@@ -32,7 +32,20 @@ fn ascending_roots(q: Quartic) -> Roots
     solve_quart_monic_coeffs(q.c0, q.c1, q.c2, q.c3).ascending()
 }
 
-#[tactic(auto, unfolding(crate::specs::TimeAllNoneAcc0Acc1::none_shared))]
+// Those of a polynomial of which it is asked whether it has a solution. With this `if` in both callers a plan took 3 %
+// longer (plan_time 201).
+#[tactic(auto, unfolding(crate::specs::TimeAllNoneAcc0Acc1::roots_if))]
+fn roots_if(has_solution: bool, q: Quartic) -> Roots
+    ensures { result ≡ roots_if has_solution q }
+{
+    if has_solution {
+        ascending_roots(q)
+    } else {
+        Roots::new()
+    }
+}
+
+#[tactic(auto, unfolding(crate::specs::Slots::numbers, crate::specs::TimeAllNoneAcc0Acc1::none_shared))]
 pub fn none_shared(start: Start, target: Target, k: Constants, m: Limits) -> Shared
     ensures { result ≡ none_shared start target k m }
 {
@@ -42,14 +55,11 @@ pub fn none_shared(start: Start, target: Target, k: Constants, m: Limits) -> Sha
     Shared {
         roots,
         range,
-        h0: 0.0,
-        h1: 0.0,
-        h2,
-        h3: 0.0,
+        ..Shared::numbers(0.0, 0.0, h2, 0.0)
     }
 }
 
-#[tactic(auto, unfolding(crate::specs::TimeAllNoneAcc0Acc1::acc0_shared, crate::specs::TimeAllNoneAcc0Acc1::roots_if))]
+#[tactic(auto, unfolding(crate::specs::Slots::numbers, crate::specs::TimeAllNoneAcc0Acc1::acc0_shared))]
 pub fn acc0_shared(start: Start, target: Target, k: Constants, m: Limits) -> Shared
     ensures { result ≡ acc0_shared start target k m }
 {
@@ -57,23 +67,16 @@ pub fn acc0_shared(start: Start, target: Target, k: Constants, m: Limits) -> Sha
     let h2 = h2_acc0(target, k, m);
     let polynom = polynom_acc0(k, m, h0, h2);
     let range = range_acc0(target, m);
-    let roots = if polynom.shifted(range.t_min).has_solution() {
-        ascending_roots(polynom)
-    } else {
-        Roots::new()
-    };
+    let roots = roots_if(polynom.shifted(range.t_min).has_solution(), polynom);
     let h3 = h3_acc0(start, target, k, m);
     Shared {
         roots,
         range,
-        h0,
-        h1: 0.0,
-        h2,
-        h3,
+        ..Shared::numbers(h0, 0.0, h2, h3)
     }
 }
 
-#[tactic(auto, unfolding(crate::specs::TimeAllNoneAcc0Acc1::acc1_shared, crate::specs::TimeAllNoneAcc0Acc1::roots_if))]
+#[tactic(auto, unfolding(crate::specs::Slots::numbers, crate::specs::TimeAllNoneAcc0Acc1::acc1_shared))]
 pub fn acc1_shared(start: Start, target: Target, k: Constants, m: Limits) -> Shared
     ensures { result ≡ acc1_shared start target k m }
 {
@@ -81,28 +84,20 @@ pub fn acc1_shared(start: Start, target: Target, k: Constants, m: Limits) -> Sha
     let h2 = h2_acc1(start, k, m);
     let polynom = polynom_acc1(start, k, m, h0, h2);
     let range = range_acc1(start, m);
-    let roots = if polynom.has_solution() {
-        ascending_roots(polynom)
-    } else {
-        Roots::new()
-    };
+    let roots = roots_if(polynom.has_solution(), polynom);
     let h3 = h3_acc1(start, target, k, m);
     Shared {
         roots,
         range,
-        h0,
-        h1: 0.0,
-        h2,
-        h3,
+        ..Shared::numbers(h0, 0.0, h2, h3)
     }
 }
 
-// How many roots there are. With `as_slice` here, and `..Shared::numbers(..)` in the three functions above, a plan took
-// 3 % longer (plan_time 201).
+// How many roots there are.
 pub fn root_count(s: Shared) -> usize
     ensures { result ≡ length (roots_of s.roots) }
 {
-    s.roots.count.min(4)
+    s.roots.as_slice().len()
 }
 
 // The root i, by constant indices: by `values[i.min(3)]` a plan took 1696 ns for 1682, the least of four runs of
