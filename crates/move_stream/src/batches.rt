@@ -15,6 +15,7 @@ pub struct Batch {
 }
 
 // Answers the whole records that bytes begin with, numbered from n, while there is room for the longest line.
+// The count is added up by hand since it is the result too: what `enumerate` counts is gone when the loop ends.
 pub fn replies_to<F: Form<N>, const N: usize>(
     n: u64,
     bytes: &[u8],

@@ -17,6 +17,7 @@ const BUFFER_LENGTH: usize = 65536;
 struct Unanswered {
     buffer: [u8; BUFFER_LENGTH],
     length: usize,
+    // By number: BUFFER_LENGTH is not in scope in a ghost field.
     ghost within: { length ≤ 65536 },
 }
 
@@ -44,7 +45,9 @@ impl Unanswered {
         self.length -= start;
     }
 
-    // Answers its whole records, and says which number the next has if another may follow.
+    // Answers its whole records, and says which number the next has if another may follow. Runtime, lines and number
+    // go along one by one: the runtime is only lent and the number isn't changed, so a struct of them would take a
+    // lifetime and both type parameters, for three short functions.
     fn answer<F: Form<BUFFER_LENGTH>, P: Print>(
         &mut self,
         rt: &P,
@@ -93,7 +96,7 @@ fn turn<F: Form<BUFFER_LENGTH>, P: Print, R: Read>(
     input.answer::<F, P>(rt, lines, n)
 }
 
-// The range only shows that the loop ends: no input takes as many turns.
+// The range only shows that the loop ends: no input takes as many turns. Why no `loop`: see `answering`.
 pub fn answer_records<F: Form<BUFFER_LENGTH>, R: Input + Print>(rt: &R) {
     let mut reader = rt.reader();
     let mut input = Unanswered {
