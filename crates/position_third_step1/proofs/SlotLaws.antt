@@ -58,10 +58,13 @@ pub accelerated_slots_law : (start : Start) (target : Target) (k : Constants) (s
     → single_step_slots start target k s ≡ accelerated_slots start s.h0
 unfolding single_step_slots
 accelerated_slots_law start target k s i a h =
-    rw (none_left (changes_acceleration start target)
-        (cond (starts_accelerated start) (accelerated_slots start s.h0)
-        (cond (starts_moving start) ((true, times_at_constant_speed start k) ∷ []) ((starts_at_target k, zero_times) ∷ [])))
-        i h, a)
+    rw (
+      none_left (changes_acceleration start target)
+          (cond (starts_accelerated start) (accelerated_slots start s.h0)
+          (cond (starts_moving start) ((true, times_at_constant_speed start k) ∷ []) ((starts_at_target k, zero_times) ∷ [])))
+          i h,
+      a,
+    )
 
 -- ---- what the check looks for of any family's slots
 pub ruleset of_slots = (root_slots_law, slot_held, slot_times, always_holds)
