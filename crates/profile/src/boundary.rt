@@ -64,15 +64,21 @@ impl Profile {
         out
     }
 
-    // The profile with the start, the target and the durations of another.
+    // The profile with the start, the target and the durations of another. Number by number: as a record update over
+    // `with_boundary` it is copied twice, and a plan took 1,475 to 1,492 ns for 1,435 to 1,467 (plan_time 201).
     #[tactic(auto, unfolding(crate::specs::Boundary::with_boundary))]
     pub fn with_boundary_from_profile(self, other: Profile) -> Profile
         ensures { result ≡ boundary_from self other }
     {
-        Profile {
-            brake: other.brake,
-            accel: other.accel,
-            ..self.with_boundary(other.start(), other.target())
-        }
+        let mut out = self;
+        out.a[0] = other.a[0];
+        out.v[0] = other.v[0];
+        out.p[0] = other.p[0];
+        out.af = other.af;
+        out.vf = other.vf;
+        out.pf = other.pf;
+        out.brake = other.brake;
+        out.accel = other.accel;
+        out
     }
 }
