@@ -12,11 +12,15 @@ mod splitting; // splitting.rt: a double's leading digits
 pub use guess::inverse_root_guess;
 pub use splitting::leading_digits;
 
-// The code's f64::EPSILON, document 01's EPS, is that of the definitions.
+// The code's f64::EPSILON, document 01's EPS.
+pub const EPSILON: f64 = f64::EPSILON;
+
+// It is that of the definitions.
 pub fn constants() -> f64
-    ensures { result ≡ eps }
+    ensures epsilon_value { EPSILON ≡ eps }
+    ensures gives { result ≡ eps }
 {
-    f64::EPSILON
+    EPSILON
 }
 
 // As Rust's `abs`: the sign is cleared, also that of -0. This function and `is_finite` only say in the definitions' words
