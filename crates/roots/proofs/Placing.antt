@@ -16,6 +16,7 @@ use lib.ListN.{length, take, drop, drop_of_length-le}
 use lib.Seq.{take_at, get_or_at, take_all, drop-append-add, drop-cons, take-suc, length-take-le}
 use Rattle.doubles.specs.Operators.{◌<ᶠ◌, at}
 use Rattle.roots.specs.List.{placed, placed_at, sorted_from}
+use Rattle.roots.specs.Steps.{place_before, moved}
 use Rattle.doubles.proofs.CondLaws.{by_cases}
 
 -- what holds of any four values written out holds of an array of four
@@ -60,29 +61,26 @@ module _ (x : Float) where
       by_cases (ltb n (length l)) (λ t. absurd (let z : Some n ≡ None = rw t at e in cc))
       (λ f. behind l (ltb-false n (length l) f))
 
--- value i put before value j of four, as a rotation of those between has it
-abbrev Turned : ℕ → ℕ → List Float → Type 0
-Turned i j v =
-    let between = take (i + 1 - j) (drop j v) in
-    let n = length between - 1 in
-    take j v ++ ((drop n between ++ take n between) ++ drop (i + 1 - j) (drop j v))
-    ≡ (take j (take i v) ++ at v i ∷ drop j (take i v)) ++ drop (suc i) v
+-- value i put before value j of four, as the code puts it
+abbrev Moved : ℕ → ℕ → List Float → Type 0
+Moved i j v = moved j i v ≡ (take j (take i v) ++ at v i ∷ drop j (take i v)) ++ drop (suc i) v
 
-turned_of : (a b c d : Float) (i j : ℕ) → i < 4 → j < i → Turned i j (a ∷ b ∷ c ∷ d ∷ [])
-turned_of a b c d zero j h g = absurd (omega arith)
-turned_of a b c d (suc zero) zero h g = refl
-turned_of a b c d (suc (suc zero)) zero h g = refl
-turned_of a b c d (suc (suc zero)) (suc zero) h g = refl
-turned_of a b c d (suc (suc (suc zero))) zero h g = refl
-turned_of a b c d (suc (suc (suc zero))) (suc zero) h g = refl
-turned_of a b c d (suc (suc (suc zero))) (suc (suc zero)) h g = refl
-turned_of a b c d (suc zero) (suc j) h g = absurd (omega arith)
-turned_of a b c d (suc (suc zero)) (suc (suc j)) h g = absurd (omega arith)
-turned_of a b c d (suc (suc (suc zero))) (suc (suc (suc j))) h g = absurd (omega arith)
-turned_of a b c d (suc (suc (suc (suc i)))) j h g = absurd (omega arith)
+moved_of : (a b c d : Float) (i j : ℕ) → i < 4 → j < i → Moved i j (a ∷ b ∷ c ∷ d ∷ [])
+unfolding place_before
+moved_of a b c d zero j h g = absurd (omega arith)
+moved_of a b c d (suc zero) zero h g = refl
+moved_of a b c d (suc (suc zero)) zero h g = refl
+moved_of a b c d (suc (suc zero)) (suc zero) h g = refl
+moved_of a b c d (suc (suc (suc zero))) zero h g = refl
+moved_of a b c d (suc (suc (suc zero))) (suc zero) h g = refl
+moved_of a b c d (suc (suc (suc zero))) (suc (suc zero)) h g = refl
+moved_of a b c d (suc zero) (suc j) h g = absurd (omega arith)
+moved_of a b c d (suc (suc zero)) (suc (suc j)) h g = absurd (omega arith)
+moved_of a b c d (suc (suc (suc zero))) (suc (suc (suc j))) h g = absurd (omega arith)
+moved_of a b c d (suc (suc (suc (suc i)))) j h g = absurd (omega arith)
 
-pub turned : (v : List Float) → length v ≡ 4 → (i j : ℕ) → i < 4 → j < i → Turned i j v
-turned v e i j h g = by_values (Turned i j) (λ a b c d. turned_of a b c d i j h g) v e
+pub moved_is : (v : List Float) → length v ≡ 4 → (i j : ℕ) → i < 4 → j < i → Moved i j v
+moved_is v e i j h g = by_values (Moved i j) (λ a b c d. moved_of a b c d i j h g) v e
 
 pub kept : (v : List Float) → length v ≡ 4 → (i : ℕ) → i < 4 → v ≡ (take i v ++ at v i ∷ []) ++ drop (suc i) v
 kept v e i h = by_values (λ v. v ≡ (take i v ++ at v i ∷ []) ++ drop (suc i) v) (λ a b c d. four a b c d i h) v e

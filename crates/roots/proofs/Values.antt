@@ -8,11 +8,12 @@ use Rattle.elementary.specs.Functions.{sqrt_of, cbrt_of, third_angle_cosine_of, 
 use Rattle.roots.specs.declared.list.Roots.{Roots}
 use Rattle.roots.specs.declared.resolvent.Zeros.TheVariants.{One, Two, Three}
 use Rattle.roots.specs.List.{inserted, placed, sorted_from, ascending_of, reading}
-use Rattle.roots.specs.Resolvent.{clamped_ratio, three_zeros, cube_root, quotient, few_zeros, resolvent_of}
+use Rattle.roots.specs.Resolvent.{zero_numbers, clamped_ratio, three_zeros, cube_root, quotient, few_zeros}
+use Rattle.roots.specs.Resolvent.{resolvent_of}
 use Rattle.roots.specs.Quartic.{with_quadratic, larger, largest_zero, equal_constants, factors_of, roots_by_factors}
 use Rattle.roots.specs.Quartic.{quartic_of}
 
--- ---- the resolvent: 1, 2 and 3 zeros, zeros that are 0, and a NaN
+-- ---- the resolvent: 1, 2 and 3 zeros, zeros that are 0, and a NaN; of two zeros the Rust's three numbers too
 
 pub record Resolvents : Type 0 where
   -- x³ - 8 has the zero 2; -1 ± √3 i are the others
@@ -20,11 +21,13 @@ pub record Resolvents : Type 0 where
       ≡ One 2ᶠ (neg 1ᶠ) (of_bits binary64 0x3ffb_b67a_e858_4caa)
   -- x³ - 3x + 2 has the zero -2 and the double zero 1
   pub two_zeros : resolvent_of 0ᶠ (neg 3ᶠ) 2ᶠ ≡ Two (neg 2ᶠ) 1ᶠ
+  pub two_zeros_numbers : zero_numbers (resolvent_of 0ᶠ (neg 3ᶠ) 2ᶠ) ≡ neg 2ᶠ ∷ 1ᶠ ∷ 1ᶠ ∷ []
   -- x³ - 3x has the zeros -√3, √3 and 0
   pub three_zeros_law : resolvent_of 0ᶠ (neg 3ᶠ) 0ᶠ
       ≡ Three (of_bits binary64 0xbffb_b67a_e858_4caa) (of_bits binary64 0x3ffb_b67a_e858_4caa) 0ᶠ
   -- x³ has the zero 0, and -0 twice
   pub at_zero : resolvent_of 0ᶠ 0ᶠ 0ᶠ ≡ Two 0ᶠ (neg 0ᶠ)
+  pub at_zero_numbers : zero_numbers (resolvent_of 0ᶠ 0ᶠ 0ᶠ) ≡ 0ᶠ ∷ neg 0ᶠ ∷ neg 0ᶠ ∷ []
   -- a NaN makes all NaN, and one zero
   pub of_nan : resolvent_of nan 0ᶠ 0ᶠ ≡ One nan nan nan
 
@@ -35,8 +38,10 @@ resolvents =
     record {
       one_zero = refl;
       two_zeros = refl;
+      two_zeros_numbers = refl;
       three_zeros_law = refl;
       at_zero = refl;
+      at_zero_numbers = refl;
       of_nan = refl;
     }
 

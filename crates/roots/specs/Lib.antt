@@ -3,3 +3,4 @@ pub mod List
 pub mod Reading
 pub mod Resolvent
 pub mod Quartic
+pub mod Steps

@@ -1,6 +1,6 @@
 -- `solve_resolvent` for any doubles, in the Rust's order of operations: the zeros with their names, one, two or three,
--- and the Rust's count of them. Definitions only.
-use Rattle.std.specs.Prelude.{ℕ, cond, Float}
+-- and the Rust's count and numbers of them. Definitions only.
+use Rattle.std.specs.Prelude.{ℕ, cond, List, [], ◌∷◌, Float}
 use Rattle.std.specs.Float.{binary64}
 use Rattle.std.specs.Float.Ieee.{of_bits}
 use Rattle.doubles.specs.Operators.{◌+ᶠ◌, ◌-ᶠ◌, ◌*ᶠ◌, ◌/ᶠ◌, -ᶠ◌, ◌<ᶠ◌, ◌==ᶠ◌}
@@ -15,6 +15,12 @@ abbrev pub zero_count : Zeros → ℕ
 zero_count (One _ _ _) = 1
 zero_count (Two _ _) = 2
 zero_count (Three _ _ _) = 3
+
+-- the Rust's three numbers: of two zeros the last one is there twice
+abbrev pub zero_numbers : Zeros → List Float
+zero_numbers (One x y z) = x ∷ y ∷ z ∷ []
+zero_numbers (Two x y) = x ∷ y ∷ y ∷ []
+zero_numbers (Three x y z) = x ∷ y ∷ z ∷ []
 
 -- COS_120, -0.50, and SIN_120, 0.866_025_403_784_438_6
 abbrev pub cos120 : Float

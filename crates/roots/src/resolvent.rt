@@ -1,6 +1,7 @@
 // `solve_resolvent`: the zeros of a cubic from which a quartic's factors come.
 ghost use Rattle.std.specs.Prelude.{◌≡◌};
-ghost use Rattle.roots.specs.Resolvent.{clamped_ratio, three_zeros, cube_root, quotient, few_zeros, resolvent_of};
+ghost use Rattle.roots.specs.Resolvent.{zero_count, zero_numbers, clamped_ratio, three_zeros, cube_root, quotient};
+ghost use Rattle.roots.specs.Resolvent.{few_zeros, resolvent_of};
 
 use cbrt::cbrt;
 use doubles::{abs, max, min};
@@ -20,6 +21,29 @@ pub enum Zeros {
     One(f64, f64, f64),
     Two(f64, f64),
     Three(f64, f64, f64),
+}
+
+// As the Rust has them: a count of zeros and three numbers.
+impl Zeros {
+    pub fn count(self) -> usize
+        ensures { result ≡ zero_count self }
+    {
+        match self {
+            Zeros::One(_, _, _) => 1,
+            Zeros::Two(_, _) => 2,
+            Zeros::Three(_, _, _) => 3,
+        }
+    }
+
+    // Of two zeros the double one is there twice.
+    pub fn numbers(self) -> [f64; 3]
+        ensures { result ≡ zero_numbers self }
+    {
+        match self {
+            Zeros::Two(x, y) => [x, y, y],
+            Zeros::One(x, y, z) | Zeros::Three(x, y, z) => [x, y, z],
+        }
+    }
 }
 
 // The zeros of x³ + a x² + b x + c.
