@@ -28,6 +28,8 @@ const DURATION_BYTES: usize = 8 * DURATIONS_MOST;
 
 const END_BYTES: usize = 8 * ENDS_MOST;
 
+const GIVEN_BYTES: usize = DURATION_BYTES + END_BYTES;
+
 // `ok`, a double, a number with a space in front, and a line feed.
 const LINE_LENGTH: usize = 2 + DOUBLE_WIDTH + 1 + DECIMAL_WIDTH + 1;
 
@@ -77,11 +79,19 @@ impl Answers<LINE_LENGTH> for Arrivals {
 
     ghost answers = { λ x text. AnswersAs x.durations.items x.ends.items text };
 
+    // Both counts are judged before more is read, and all doubles are read at once.
     fn read<R: Read>(reader: &mut R) -> Option<Given> {
         let [n, m]: [u8; 2] = read_array(reader)?;
-        let durations = read_bytes(reader, 8 * usize::from(n))?;
-        let ends = read_bytes(reader, 8 * usize::from(m))?;
-        Some(Given { durations, ends })
+        let (n, m) = (usize::from(n), usize::from(m));
+        if n > DURATIONS_MOST || m > ENDS_MOST {
+            return None;
+        }
+        let bytes: ArrayVec<u8, GIVEN_BYTES> = read_bytes(reader, 8 * n + 8 * m)?;
+        let (durations, ends) = bytes.split_at(8 * n);
+        Some(Given {
+            durations: ArrayVec::try_from(durations).ok()?,
+            ends: ArrayVec::try_from(ends).ok()?,
+        })
     }
 
     fn line(of: Given) -> ArrayVec<u8, LINE_LENGTH> {
