@@ -1,7 +1,7 @@
 // Standard input's records answered on standard output. Each record is answered as soon as it is whole: a read takes
 // what is there, and the lines of all whole records are written before more is waited for.
 
-ghost use Rattle.std.specs.Prelude.{◌≡◌, ◌-◌, ◌≤◌, drop};
+ghost use Rattle.std.specs.Prelude.{◌≡◌, ◌-◌, ◌≤◌, None, drop};
 ghost use Rattle.std.proofs.Math.Seq.{paste};
 
 use crate::batches::replies_to;
@@ -67,16 +67,19 @@ impl Unanswered {
         }
     }
 
-    // At the end of the input: what is left is a record cut short, or nothing.
+    // At the end of the input: what is left is a record cut short, or nothing. No other record follows.
     fn answer_rest<F: Form<BUFFER_LENGTH>, P: Print>(
         &self,
         rt: &P,
         lines: &mut ArrayVec<u8, BUFFER_LENGTH>,
         n: u64,
-    ) {
+    ) -> Option<u64>
+        ensures { result ≡ None }
+    {
         lines.clear();
         put_reply::<F, BUFFER_LENGTH>(n, &self.buffer[..self.length], lines);
         let _ = rt.write_all(lines.as_slice());
+        None
     }
 }
 
@@ -90,8 +93,7 @@ fn turn<F: Form<BUFFER_LENGTH>, P: Print, R: Read>(
     n: u64,
 ) -> Option<u64> {
     if input.length < RECORD_LENGTH && !input.read_more(reader) {
-        input.answer_rest::<F, P>(rt, lines, n);
-        return None;
+        return input.answer_rest::<F, P>(rt, lines, n);
     }
     input.answer::<F, P>(rt, lines, n)
 }

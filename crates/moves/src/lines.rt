@@ -6,7 +6,7 @@ ghost use Rattle.block.specs.declared.Block.{Block};
 ghost use Rattle.decimals.specs.Decimal.{decimal_width};
 ghost use Rattle.profile_lines.specs.Text.{Appends};
 ghost use Rattle.moves.specs.Lines.{plan_fields, full_fields, answer_with, line_with, frame_width, refusal_width};
-ghost use Rattle.moves.specs.Lines.{line_length, full_line_length};
+ghost use Rattle.moves.specs.Lines.{line_of, full_line_of, line_length, full_line_length};
 
 use crate::fields::{put_full_plan, put_plan, put_refusal};
 use arrayvec::ArrayVec;
@@ -143,4 +143,10 @@ pub fn line<F: Whole<N>, const N: usize>(n: u64, x: Result<Block, Refusal>) -> A
 // The lengths of the code are those of the definitions.
 pub fn line_constants()
     ensures { (LINE_LENGTH ≡ line_length) × (FULL_LINE_LENGTH ≡ full_line_length) }
+{}
+
+// Whatever room there is, the two forms' lines are the definitions'.
+pub fn line_forms<const N: usize>()
+    ensures short { line_with ⟦<Short as Form<N>>⟧.plan ≡ line_of }
+    ensures full { line_with ⟦<Full as Form<N>>⟧.plan ≡ full_line_of }
 {}
