@@ -4,7 +4,7 @@
 
 ghost use Rattle.std.specs.Prelude.{◌≡◌, ◌≤◌};
 ghost use Rattle.block.specs.Blocks.{total, duration, no_interval, interval_from, interval_between, block_of};
-ghost use Rattle.block.specs.Blocks.{empty_block, count_of, left_end, right_end, inside, Says};
+ghost use Rattle.block.specs.Blocks.{empty_block, count_of, left_end, right_end, inside, plan_in, Says};
 
 use profile::Profile;
 use refusals::Refusal;
@@ -166,6 +166,13 @@ impl Block {
             a: Interval::none(),
             b: Interval::none(),
         }
+    }
+
+    // The plan that an answer leaves: of a refusal the empty one.
+    pub fn of(answer: Result<Block, Refusal>) -> Block
+        ensures { result ≡ plan_in answer }
+    {
+        answer.unwrap_or(Block::empty())
     }
 
     // Whether a time is blocked. A time that isn't finite is refused.

@@ -34,7 +34,7 @@ impl Answers<LINE_LENGTH> for Blocks {
 
     fn line(of: [u8; RECORD_LENGTH]) -> ArrayVec<u8, LINE_LENGTH> {
         let answer = selected_of(&of);
-        let block = answer.unwrap_or(Block::empty());
+        let block = Block::of(answer);
         let times = times_of(&of);
         let mut line = ArrayVec::new();
         put_answer(&mut line, answer);
