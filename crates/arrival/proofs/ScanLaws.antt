@@ -423,7 +423,7 @@ module _ (durations ends : List Float) where
   finite_below (inf true) s h e i = absurd (true≢false (unsigned_not_negative (inf true) h.unsigned))
   finite_below (fin u m k) s h e i = clash refl e
 
-  never : {t : Float} → Passed durations ends (length durations) t → finite t ≡ false
+  pub never : {t : Float} → Passed durations ends (length durations) t → finite t ≡ false
       → (s : Float) → Finite s → FreeForAll durations ends s → ⊥
   never {t} h e s i = h.reached.no_smaller s (finite_below t s h.reached.time e i)
 

@@ -120,7 +120,7 @@ module _ (buffer : List Float) (t : Float) where
         of_plan = λ b rest e. absurd (let none : ⊥ = omega (arith, long_enough b rest, ap length e) in none);
       }
 
-  asked_whole : (r : ℕ) → plan_length ≤ length buffer → r ≡ blocking_from buffer t → Asked buffer t r
+  pub asked_whole : (r : ℕ) → plan_length ≤ length buffer → r ≡ blocking_from buffer t → Asked buffer t r
   unfolding blocked_status
   asked_whole r h e =
       record {
