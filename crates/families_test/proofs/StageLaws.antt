@@ -5,12 +5,12 @@ use Rattle.phase_times.specs.Constants.{constants_of}
 use mathlib.Core.Path.{◌≡◌, refl, sym, ap, ◌∙◌}
 use mathlib.Core.Bool.{Bool, true, false, cond, ◌&&◌}
 use mathlib.Core.List.{List, [], ◌∷◌, ◌++◌}
-use Rattle.std.proofs.Common.{Option}
+use Rattle.std.proofs.Common.{Result}
 use Rattle.profile.specs.declared.Profile.{Profile}
 use Rattle.profile.specs.declared.Start.{Start}
 use Rattle.profile.specs.declared.Target.{Target}
 use Rattle.profile.specs.declared.Limits.{Limits}
-use Rattle.profile_check.specs.Check.{Checked, passed}
+use Rattle.profile_check.specs.Check.{Checked, judged}
 use Rattle.phase_times.specs.declared.constants.Constants.{Constants}
 use Rattle.trees.specs.Tree.{done, run, bind}
 use Rattle.trees.specs.Stages.{in_stages}
@@ -21,7 +21,7 @@ use Rattle.trees.proofs.StageLaws.{each_stage, first_stage, no_stages_end, stage
 use Rattle.trees.proofs.StageLaws.{first_stage_split}
 use Rattle.candidates.specs.Try.{passes}
 use Rattle.candidates.specs.declared.Try.{Try}
-use Rattle.candidates.specs.List.{stored, added}
+use Rattle.candidates.specs.List.{slot, stored, added}
 use Rattle.candidates.specs.declared.Candidates.{Candidates}
 use Rattle.position_third_step1.specs.CheckTree.{found, tries}
 use Rattle.position_third_step1.specs.Families.{shared_of, slots_of, reached_by, jerk_by, tries_of}
@@ -177,15 +177,24 @@ single_step_found b xs =
 
 -- l is the list at first, c the one after the stage, x what is taken of it
 pub single_step_law : (b : List ℕ) (start : Start) (target : Target) (k : Constants) (m : Limits)
-    {c l : Candidates} {x : Option Profile}
+    {c l : Candidates} {x : Checked}
     → l ≡ list_of b 0 → c ≡ found (search_of start target k m (stages_from SingleStep 0 1) l)
-    → x ≡ passed (first_found c)
-    → x ≡ passed (run passes (time_all_single_step (boundary_of b) start target k m))
+    → (x.ok ≡ is_found c) × (x.profile ≡ slot c 0)
+    → x ≡ run passes (time_all_single_step (boundary_of b) start target k m)
 unfolding stages_from stage_at limits_for tries_of slots_of shared_of reached_by jerk_by single_step_tries list_of
 single_step_law b start target k m {c} {l} {x} fresh searched first =
-    first
-    ∙ ap passed
-    (ap first_found (searched
+    let is-first : x ≡ first_found c = λ i. record { ok = first.0 i; profile = first.1 i } in
+    is-first
+    ∙ ap first_found (searched
     ∙ ap (λ (z : Candidates). found (search_of start target k m (stages_from SingleStep 0 1) z)) fresh
     ∙ one_stage _ (list_of b 0))
-    ∙ single_step_found b (single_step_tries start target k m))
+    ∙ single_step_found b (single_step_tries start target k m)
+
+-- and r what the code takes of it
+pub single_step_judged : (b : List ℕ) (start : Start) (target : Target) (k : Constants) (m : Limits)
+    {c l : Candidates} {r : Result Profile Profile}
+    → l ≡ list_of b 0 → c ≡ found (search_of start target k m (stages_from SingleStep 0 1) l)
+    → r ≡ judged (first_found c)
+    → r ≡ judged (run passes (time_all_single_step (boundary_of b) start target k m))
+single_step_judged b start target k m fresh searched first =
+    first ∙ ap judged (single_step_law b start target k m fresh searched (refl, refl))

@@ -40,17 +40,17 @@ pub fn added_line(c: Candidates, counted: usize) -> ArrayVec<u8, LINE_LENGTH>
 
 // The profile that the single step found, if any.
 #[tactic(auto, unfolding(crate::specs::Lines::single_line))]
-pub fn single_line(found: Option<Profile>) -> ArrayVec<u8, LINE_LENGTH>
+pub fn single_line(found: Result<Profile, Profile>) -> ArrayVec<u8, LINE_LENGTH>
     ensures { result.items ≡ single_line found }
 {
     let mut line = ArrayVec::new();
     match found {
-        Some(profile) => {
+        Ok(profile) => {
             put(&mut line, b"1");
             put_profile_fields(&mut line, profile);
             put(&mut line, b"\n");
         }
-        None => put(&mut line, b"0\n"),
+        Err(_) => put(&mut line, b"0\n"),
     }
     line
 }

@@ -2,7 +2,7 @@
 // is called here.
 
 ghost use Rattle.std.specs.Prelude.{◌≡◌, ◌<◌, ◌||◌, eqb, ltb, get_or};
-ghost use Rattle.profile_check.specs.Check.{passed};
+ghost use Rattle.profile_check.specs.Check.{judged};
 ghost use Rattle.families_test.specs.Records.{start_of, target_of, limits_of, boundary_of, directed, list_of};
 ghost use Rattle.families_test.specs.Records.{stages_of, turned, after_family, single_step, first_found};
 
@@ -138,22 +138,23 @@ pub fn after_family(bytes: &[u8; 108], c: Candidates) -> Candidates
     search(c, start, target, k, m, kind, numbers)
 }
 
-// The first profile of a list, where it counts.
+// The first profile of a list, as a no where it doesn't count.
 #[tactic(auto, using(crate::proofs::ListLaws::first_slot))]
-fn first_found(c: Candidates) -> Option<Profile>
-    ensures { result ≡ passed (first_found c) }
+fn first_found(c: Candidates) -> Result<Profile, Profile>
+    ensures { result ≡ judged (first_found c) }
 {
+    let profile = c.valid_profiles[0];
     if c.current_index > 0 {
-        Some(c.valid_profiles[0])
+        Ok(profile)
     } else {
-        None
+        Err(profile)
     }
 }
 
-// The single-step path works on one profile.
-#[tactic(auto, using(crate::proofs::StageLaws::single_step_law), unfolding(crate::specs::Records::single_step))]
-pub fn single_step(bytes: &[u8; 108]) -> Option<Profile>
-    ensures { result ≡ passed (single_step bytes.now) }
+// The single-step path works on one profile. A no holds it as it is then.
+#[tactic(auto, using(crate::proofs::StageLaws::single_step_judged), unfolding(crate::specs::Records::single_step))]
+pub fn single_step(bytes: &[u8; 108]) -> Result<Profile, Profile>
+    ensures { result ≡ judged (single_step bytes.now) }
 {
     let start = start_of(bytes);
     let target = target_of(bytes);

@@ -1,6 +1,7 @@
 -- The check of a profile: its conditions, in document 01's order, and the profile that it gives back. Definitions only.
 -- Every comparison stands with the Rust's sides: with a NaN it is false, so it may not be turned round.
 use Rattle.std.specs.Prelude.{ℕ, zero, suc, ◌+◌, Bool, true, false, cond, not, ◌&&◌, ◌||◌, List, Option, Some, None, Float}
+use Rattle.std.specs.Prelude.{Result, Ok, Err}
 use Rattle.doubles.specs.Operators.{◌-ᶠ◌, ◌*ᶠ◌, ◌/ᶠ◌, -ᶠ◌, ◌<ᶠ◌, ◌≤ᶠ◌, at}
 use Rattle.doubles.specs.Constants.{0ᶠ, 2ᶠ, eps}
 use Rattle.doubles.specs.Functions.{absᶠ}
@@ -125,3 +126,7 @@ passed c = cond c.ok (Some c.profile) None
 abbrev pub profile_after : Profile → Option Profile → Profile
 profile_after q (Some r) = r
 profile_after q None = q
+
+-- all of it in one answer: the profile where it is accepted, or as a no leaves it
+abbrev pub judged : Checked → Result Profile Profile
+judged c = cond c.ok (Ok c.profile) (Err c.profile)

@@ -1,6 +1,6 @@
 -- What the bytes of a record mean: start, target, seven times, the jerk, v_max, v_min, a_max and a_min as doubles, then
 -- limits, control signs and `set_limits`, a byte each. Definitions only.
-use Rattle.std.specs.Prelude.{ℕ, cond, List, [], ◌∷◌, Option, eqb, get_or}
+use Rattle.std.specs.Prelude.{ℕ, cond, List, [], ◌∷◌, eqb, get_or}
 use Rattle.doubles.specs.Constants.{0ᶠ}
 use Rattle.encoding.specs.Encoding.{double_at}
 use Rattle.profile.specs.Boundary.{empty_profile, boundary_set}
@@ -14,7 +14,7 @@ use Rattle.profile.specs.declared.ReachedLimits.TheVariants.{Acc0Acc1Vel, Vel, A
 use Rattle.profile.specs.declared.ReachedLimits.TheVariants.{None}
 use Rattle.profile.specs.declared.ControlSigns.{ControlSigns}
 use Rattle.profile.specs.declared.ControlSigns.TheVariants.{UDDU, UDUD}
-use Rattle.profile_check.specs.Check.{checked, passed}
+use Rattle.profile_check.specs.Check.{Checked, checked}
 
 -- ---- names by their numbers
 
@@ -57,8 +57,8 @@ bounds_of b =
     }
 
 -- what `check` answers
-unfoldable pub checked_of : List ℕ → Option Profile
+unfoldable pub checked_of : List ℕ → Checked
 checked_of b =
     let signs = control_signs_of (get_or b 145 0) in
     let reached = limits_of (get_or b 144 0) in
-    passed (checked (profile_of b) signs reached (eqb (get_or b 146 0) 1) (double_at b 104) (bounds_of b))
+    checked (profile_of b) signs reached (eqb (get_or b 146 0) 1) (double_at b 104) (bounds_of b)

@@ -35,12 +35,12 @@ impl Answers<LINE_LENGTH> for Checks {
     fn line(of: [u8; 147]) -> ArrayVec<u8, LINE_LENGTH> {
         let mut line = ArrayVec::new();
         match checked_of(&of) {
-            Some(profile) => {
+            Ok(profile) => {
                 put(&mut line, b"yes");
                 put_profile_fields(&mut line, profile);
                 put(&mut line, b"\n");
             }
-            None => put(&mut line, b"no\n"),
+            Err(_) => put(&mut line, b"no\n"),
         }
         line
     }

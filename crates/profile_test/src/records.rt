@@ -1,6 +1,7 @@
 // What the bytes of a record mean. Its parts have no types of their own, so there is no `From` to read them.
 
 ghost use Rattle.std.specs.Prelude.{◌≡◌};
+ghost use Rattle.profile_check.specs.Check.{judged};
 ghost use Rattle.profile_test.specs.Records.{limits_of, control_signs_of, profile_of, bounds_of};
 ghost use Rattle.profile_test.specs.Records.{checked_of};
 
@@ -61,11 +62,12 @@ fn bounds_of(bytes: &[u8; 147]) -> Limits
     }
 }
 
-// What `check` answers.
+// What `check` answers, and the profile as it leaves it.
 #[tactic(auto, unfolding(crate::specs::Records::checked_of))]
-pub fn checked_of(bytes: &[u8; 147]) -> Option<Profile>
-    ensures { result ≡ checked_of bytes.now }
+pub fn checked_of(bytes: &[u8; 147]) -> Result<Profile, Profile>
+    ensures { result ≡ judged (checked_of bytes.now) }
 {
+    let q = profile_of(bytes);
     let x = Terms {
         control_signs: control_signs_of(bytes[145]),
         reached: limits_of(bytes[144]),
@@ -73,5 +75,5 @@ pub fn checked_of(bytes: &[u8; 147]) -> Option<Profile>
         jf: double_at(bytes, 104),
         limits: bounds_of(bytes),
     };
-    check(profile_of(bytes), x)
+    check(q, x).ok_or(q)
 }
