@@ -16,9 +16,9 @@ count_of b = length b / 8
 abbrev pub doubles_of : List ℕ → List Float
 doubles_of b = doubles_at b 0 (count_of b)
 
--- a record: how many durations and how many ends, a byte each, then these
-abbrev pub record_of : (durations ends : List ℕ) → List ℕ
-record_of durations ends = count_of durations ∷ count_of ends ∷ durations ++ ends
+-- a record: how many durations and how many ends, a byte each, then the bytes of these
+abbrev pub record_of : (durations ends : ℕ) → List ℕ → List ℕ
+record_of durations ends bytes = durations ∷ ends ∷ bytes
 
 -- a time with its axis, or the number of the refusal
 abbrev pub text_of : Result Arrival Refusal → List ℕ

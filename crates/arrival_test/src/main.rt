@@ -4,7 +4,7 @@
 // too many doubles. oracle/tools/make_stored.py makes the stored input and output.
 #![tactic(auto)]
 
-ghost use Rattle.std.specs.Prelude.{◌≡◌, ◌+◌, ◌*◌, ◌≤◌, length};
+ghost use Rattle.std.specs.Prelude.{◌≡◌, ◌+◌, ◌*◌, ◌≤◌, length, take, drop};
 ghost use Rattle.arrayvec.specs.ArrayVec.{array_vec_len};
 ghost use Rattle.profile_lines.specs.Text.{Appends};
 ghost use Rattle.arrival_test.specs.Lines.{doubles_of, record_of, text_of, text_width};
@@ -24,20 +24,19 @@ const DURATIONS_MOST: usize = 10;
 
 const ENDS_MOST: usize = 40;
 
-const DURATION_BYTES: usize = 8 * DURATIONS_MOST;
-
-const END_BYTES: usize = 8 * ENDS_MOST;
-
-const GIVEN_BYTES: usize = DURATION_BYTES + END_BYTES;
+const DOUBLES_BYTES: usize = 8 * (DURATIONS_MOST + ENDS_MOST);
 
 // `ok`, a double, a number with a space in front, and a line feed.
 const LINE_LENGTH: usize = 2 + DOUBLE_WIDTH + 1 + DECIMAL_WIDTH + 1;
 
-// The bytes of the durations and of the ends.
+// How many durations there are and how many ends, and the bytes of these. In a ghost field the constants have no name.
 #[derive(Drop)]
 struct Given {
-    durations: ArrayVec<u8, DURATION_BYTES>,
-    ends: ArrayVec<u8, END_BYTES>,
+    durations: u8,
+    ends: u8,
+    bytes: ArrayVec<u8, DOUBLES_BYTES>,
+    ghost most: { (durations ≤ 10) × (ends ≤ 40) },
+    ghost whole: { length bytes.items ≡ 8 * durations + 8 * ends },
 }
 
 // As many doubles as there are bytes for: `doubles_at` reads a number that is known.
@@ -75,28 +74,29 @@ struct Arrivals;
 impl Answers<LINE_LENGTH> for Arrivals {
     type Record = Given;
 
-    ghost bytes = { λ x. record_of x.durations.items x.ends.items };
+    ghost bytes = { λ x. record_of x.durations x.ends x.bytes.items };
 
-    ghost answers = { λ x text. AnswersAs x.durations.items x.ends.items text };
+    ghost answers = { λ x text. AnswersAs (take (8 * x.durations) x.bytes.items) (drop (8 * x.durations) x.bytes.items) text };
 
     // Both counts are judged before more is read, and all doubles are read at once.
     fn read<R: Read>(reader: &mut R) -> Option<Given> {
-        let [n, m]: [u8; 2] = read_array(reader)?;
-        let (n, m) = (usize::from(n), usize::from(m));
+        let [durations, ends]: [u8; 2] = read_array(reader)?;
+        let (n, m) = (usize::from(durations), usize::from(ends));
         if n > DURATIONS_MOST || m > ENDS_MOST {
             return None;
         }
-        let bytes: ArrayVec<u8, GIVEN_BYTES> = read_bytes(reader, 8 * n + 8 * m)?;
-        let (durations, ends) = bytes.split_at(8 * n);
+        let bytes = read_bytes(reader, 8 * n + 8 * m)?;
         Some(Given {
-            durations: ArrayVec::try_from(durations).ok()?,
-            ends: ArrayVec::try_from(ends).ok()?,
+            durations,
+            ends,
+            bytes,
         })
     }
 
     fn line(of: Given) -> ArrayVec<u8, LINE_LENGTH> {
-        let durations = doubles_of::<DURATIONS_MOST>(&of.durations);
-        let ends = doubles_of::<ENDS_MOST>(&of.ends);
+        let (durations, ends) = of.bytes.split_at(8 * usize::from(of.durations));
+        let durations = doubles_of::<DURATIONS_MOST>(durations);
+        let ends = doubles_of::<ENDS_MOST>(ends);
         let mut line = ArrayVec::new();
         put_arrival(&mut line, arrival(&durations, &ends));
         put(&mut line, b"\n");

@@ -76,51 +76,51 @@ module _ (xs ys zs : List Try) (c : Candidates) where
 
 -- ---- the families: r is the list after their stages
 module _ (start : Start) (target : Target) (k : Constants) (m : Limits) (c : Candidates) {r : Candidates} where
-  all_vel : r ≡ found (search_of start target k m (stages_from Moving 8 1) c)
+  pub all_vel : r ≡ found (search_of start target k m (stages_from Moving 8 1) c)
       → r ≡ found (time_all_vel c start target k m)
   unfolding stages_from stage_at moving_stage limits_for tries_of slots_of shared_of reached_by jerk_by all_vel_tries
   all_vel e = e ∙ one_stage _ c
 
-  acc0_acc1 : r ≡ found (search_of start target k m (stages_from Moving 6 1) c)
+  pub acc0_acc1 : r ≡ found (search_of start target k m (stages_from Moving 6 1) c)
       → r ≡ found (time_acc0_acc1 c start target k m false)
   unfolding stages_from stage_at moving_stage limits_for tries_of slots_of shared_of reached_by jerk_by acc0_acc1_tries
   acc0_acc1 e = e ∙ one_stage _ c
 
-  none_acc0_acc1 : r ≡ found (search_of start target k m (stages_from Moving 0 3) c)
+  pub none_acc0_acc1 : r ≡ found (search_of start target k m (stages_from Moving 0 3) c)
       → r ≡ found (time_all_none_acc0_acc1 c start target k m false)
   unfolding stages_from stage_at moving_stage polynom_family limits_for tries_of slots_of shared_of reached_by jerk_by none_tries acc0_tries acc1_tries none_acc0_acc1_tries
   none_acc0_acc1 e =
       e ∙ three_each (none_tries start target k m) (acc0_tries start target k m) (acc1_tries start target k m) c
 
-  acc1_vel_two_step : r ≡ found (search_of start target k m (stages_from Moving 16 1) c)
+  pub acc1_vel_two_step : r ≡ found (search_of start target k m (stages_from Moving 16 1) c)
       → r ≡ called true c (time_acc1_vel_two_step c start target k m)
   unfolding stages_from stage_at two_step_stage two_step_family limits_for tries_of slots_of shared_of reached_by jerk_by acc1_vel_two_step_tries
   acc1_vel_two_step e = e ∙ one_stage _ c
 
-  acc0_two_step : r ≡ found (search_of start target k m (stages_from Moving 12 1) c)
+  pub acc0_two_step : r ≡ found (search_of start target k m (stages_from Moving 12 1) c)
       → r ≡ called true c (time_acc0_two_step c start target k m)
   unfolding stages_from stage_at two_step_stage two_step_family limits_for tries_of slots_of shared_of reached_by jerk_by acc0_two_step_tries
   acc0_two_step e = e ∙ one_stage _ c
 
-  vel_two_step : r ≡ found (search_of start target k m (stages_from Moving 14 1) c)
+  pub vel_two_step : r ≡ found (search_of start target k m (stages_from Moving 14 1) c)
       → r ≡ called true c (time_vel_two_step c start target k m)
   unfolding stages_from stage_at two_step_stage two_step_family limits_for tries_of slots_of shared_of reached_by jerk_by vel_two_step_tries
   vel_two_step e = e ∙ one_stage _ c
 
-  none_two_step : r ≡ found (search_of start target k m (stages_from Moving 10 1) c)
+  pub none_two_step : r ≡ found (search_of start target k m (stages_from Moving 10 1) c)
       → r ≡ called true c (time_none_two_step c start target k m)
   unfolding stages_from stage_at two_step_stage two_step_family limits_for tries_of slots_of shared_of reached_by jerk_by none_two_step_tries
   none_two_step e = e ∙ one_stage _ c
 
   -- ---- with `return_after_found`, from limits that are m towards the target
   module _ (w : Limits) (towards : towards_target k w ≡ m) where
-    first_acc0_acc1 : r ≡ found (search_of start target k w (stages_from Resting 4 1) c)
+    pub first_acc0_acc1 : r ≡ found (search_of start target k w (stages_from Resting 4 1) c)
         → r ≡ called true c (time_acc0_acc1 c start target k m true)
     unfolding stages_from stage_at resting_stage resting_family limits_for tries_of slots_of shared_of reached_by jerk_by acc0_acc1_tries
     first_acc0_acc1 e =
         e ∙ one_stage _ c ∙ ap (λ (n : Limits). called true c (time_acc0_acc1 c start target k n true)) towards
 
-    first_none_acc0_acc1 : r ≡ found (search_of start target k w (stages_from Resting 1 3) c)
+    pub first_none_acc0_acc1 : r ≡ found (search_of start target k w (stages_from Resting 1 3) c)
         → r ≡ called true c (time_all_none_acc0_acc1 c start target k m true)
     unfolding stages_from stage_at resting_stage resting_family polynom_family limits_for tries_of slots_of shared_of reached_by jerk_by none_tries acc0_tries acc1_tries none_acc0_acc1_tries
     first_none_acc0_acc1 e =
