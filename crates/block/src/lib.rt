@@ -169,6 +169,7 @@ impl Block {
     }
 
     // The plan that an answer leaves: of a refusal the empty one.
+    #[tactic(auto, using(crate::proofs::MemberLaws::plan_or_empty))]
     pub fn of(answer: Result<Block, Refusal>) -> Block
         ensures { result ≡ plan_in answer }
     {

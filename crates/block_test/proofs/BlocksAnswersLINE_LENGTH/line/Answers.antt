@@ -1,5 +1,4 @@
 -- The line of a record is the definition's. Assumes nothing.
-use Rattle.block.proofs.MemberLaws.{plan_or_empty}
 use Rattle.profile_lines.proofs.PutLaws.{then}
 use Rattle.block_test.specs.Lines.{line_of}
 use Rattle.block_test.proofs.BlocksAnswersLINE_LENGTH.line.Goals as goal
@@ -13,9 +12,7 @@ returns c =
     c.put_blockings-2.ensures)
     c.put.ensures in
     rw (
-      c.unwrap_or-block.ensures,
-      c.empty.ensures,
-      plan_or_empty,
+      c.of-block.ensures,
       c.selected_of-answer.ensures,
       c.given_of.ensures,
       c.times_of-times.ensures,
