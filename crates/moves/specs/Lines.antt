@@ -56,6 +56,10 @@ line_of = line_with plan_fields
 abbrev pub full_line_of : ℕ → Answer → List ℕ
 full_line_of = line_with full_fields
 
+-- the line for a refusal by its number, in either form; it may be one that no refusal has
+abbrev pub refused_line : (n number : ℕ) → List ℕ
+refused_line n number = decimal n ++ refusal_fields number ++ ascii "\n"
+
 -- ---- how many bytes each may take, with the space in front; a whole line with its line feed
 abbrev pub ok_width : ℕ
 ok_width = 3

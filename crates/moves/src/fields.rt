@@ -65,12 +65,19 @@ pub fn put_plan<const N: usize>(line: &mut ArrayVec<u8, N>, x: Block)
 }
 
 #[tactic(auto, using(crate::proofs::Putting::putting), unfolding(crate::specs::Lines::refusal_fields))]
+pub fn put_refused<const N: usize>(line: &mut ArrayVec<u8, N>, number: u64)
+    requires { array_vec_len line.old + refusal_width ≤ N }
+    ensures { Appends line.old line.new (refusal_fields number) refusal_width }
+{
+    put_field(line, b"refused");
+    put_number(line, number);
+}
+
 pub fn put_refusal<const N: usize>(line: &mut ArrayVec<u8, N>, refusal: Refusal)
     requires { array_vec_len line.old + refusal_width ≤ N }
     ensures { Appends line.old line.new (refusal_fields (refusal_number refusal)) refusal_width }
 {
-    put_field(line, b"refused");
-    put_number(line, u64::from(refusal));
+    put_refused(line, u64::from(refusal));
 }
 
 // A stretch and the profile beside it.

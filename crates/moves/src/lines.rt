@@ -6,9 +6,9 @@ ghost use Rattle.block.specs.declared.Block.{Block};
 ghost use Rattle.decimals.specs.Decimal.{decimal_width};
 ghost use Rattle.profile_lines.specs.Text.{Appends};
 ghost use Rattle.moves.specs.Lines.{plan_fields, full_fields, answer_with, line_with, frame_width, refusal_width};
-ghost use Rattle.moves.specs.Lines.{line_of, full_line_of, line_length, full_line_length};
+ghost use Rattle.moves.specs.Lines.{line_of, full_line_of, refused_line, line_length, full_line_length};
 
-use crate::fields::{put_full_plan, put_plan, put_refusal};
+use crate::fields::{put_full_plan, put_plan, put_refusal, put_refused};
 use arrayvec::ArrayVec;
 use block::Block;
 use decimals::{DECIMAL_WIDTH, put_decimal};
@@ -137,6 +137,18 @@ pub fn line<F: Whole<N>, const N: usize>(n: u64, x: Result<Block, Refusal>) -> A
 {
     let mut line = ArrayVec::new();
     put_line::<F, N>(&mut line, n, x);
+    line
+}
+
+// The line for a refusal by its number, also by one that no refusal has: the same in both forms.
+#[tactic(auto, using(crate::proofs::Putting::putting))]
+pub fn refused_line(n: u64, number: u64) -> ArrayVec<u8, LINE_LENGTH>
+    ensures items { result.items ≡ refused_line n number }
+{
+    let mut line = ArrayVec::new();
+    put_decimal(&mut line, n);
+    put_refused(&mut line, number);
+    put(&mut line, b"\n");
     line
 }
 
